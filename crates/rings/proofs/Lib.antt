@@ -1,0 +1,5 @@
+pub mod Integers
+pub mod Line
+pub mod Ring
+pub mod Local
+pub mod Automaton
