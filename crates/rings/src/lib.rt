@@ -1,5 +1,6 @@
 // Rings of cells: what every layer above shares. The definitions are in specs/, the lemmas in proofs/.
 ghost use mathlib.Core.Path.{_≡_};
+ghost use Rattle.rings.specs.Local.{span};
 ghost use Rattle.rings.specs.Ring.{first-stray, Is-first-stray};
 
 // Which way an automaton steps.
@@ -20,4 +21,11 @@ pub fn first_stray(cells: &[u32], states: u32) -> Option<usize>
         }
     }
     None
+}
+
+// How many cells an interval has, its ends given in either order.
+pub fn interval_width(lo: i32, hi: i32) -> usize
+    ensures { λ r. ⌜ r ≡ span lo hi ⌝ }
+{
+    (hi as i64 - lo as i64).unsigned_abs() as usize + 1
 }

@@ -1,0 +1,7 @@
+use mathlib.Core.Path.{_≡_}
+use lib.ListN.{take}
+use Rattle.rules.specs.Tables.{entry-index}
+use Rattle.rules.proofs.table.index_of.Given as given
+
+abbrev pub Inv-loop-code : given.InvT-loop-code
+Inv-loop-code l = l .index ≡ entry-index (l .states) (take (l .code-index) (l .window))
