@@ -50,17 +50,17 @@ reversible-add q f g closed i (negsuc m) (negsuc n) c r =
     power-add (ring-map g) (suc m) (suc n) c ∙ ap (λ k. power (ring-map g) k c) e
 reversible-add q f g closed i (pos m) (negsuc n) c r = ⊎-elim
     (λ h. let e : pos m +ℤ negsuc n ≡ negsuc (n - m) = omega (arith, ints) in
-      let d : suc n - m ≡ suc (n - m) = omega arith in
-      fewer-back q f g (i .proper .closed) (i .before) m (suc n) c r (omega arith) ∙ ap (λ k. power (ring-map g) k c) d ∙ ap (λ z. after (reversible q f g) z c) (sym e))
+    let d : suc n - m ≡ suc (n - m) = omega arith in
+    fewer-back q f g (i .proper .closed) (i .before) m (suc n) c r (omega arith) ∙ ap (λ k. power (ring-map g) k c) d ∙ ap (λ z. after (reversible q f g) z c) (sym e))
     (λ h. let e : pos m +ℤ negsuc n ≡ pos (m - suc n) = omega (arith, ints) in
-      more-back q f g (i .proper .closed) (i .before) m (suc n) c r h ∙ ap (λ z. after (reversible q f g) z c) (sym e))
+    more-back q f g (i .proper .closed) (i .before) m (suc n) c r h ∙ ap (λ z. after (reversible q f g) z c) (sym e))
     (cases-lt m (suc n))
 reversible-add q f g closed i (negsuc m) (pos n) c r = ⊎-elim
     (λ h. let e : negsuc m +ℤ pos n ≡ negsuc (m - n) = omega (arith, ints) in
-      let d : suc m - n ≡ suc (m - n) = omega arith in
-      more-back q g f closed (i .after) (suc m) n c r (omega arith) ∙ ap (λ k. power (ring-map g) k c) d ∙ ap (λ z. after (reversible q f g) z c) (sym e))
+    let d : suc m - n ≡ suc (m - n) = omega arith in
+    more-back q g f closed (i .after) (suc m) n c r (omega arith) ∙ ap (λ k. power (ring-map g) k c) d ∙ ap (λ z. after (reversible q f g) z c) (sym e))
     (λ h. let e : negsuc m +ℤ pos n ≡ pos (n - suc m) = omega (arith, ints) in
-      fewer-back q g f closed (i .after) (suc m) n c r h ∙ ap (λ z. after (reversible q f g) z c) (sym e))
+    fewer-back q g f closed (i .after) (suc m) n c r h ∙ ap (λ z. after (reversible q f g) z c) (sym e))
     (cases-lt n (suc m))
 
 pub after-add : (a : Automaton) → Sound a → Steps-add a

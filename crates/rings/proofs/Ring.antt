@@ -112,7 +112,7 @@ pub reflect-is-reverse : (c : List ℕ) → reflect c ≡ reverse c
 unfolding reflect floor-mod
 reflect-is-reverse c = sym (Line.is-tabulate (λ j. reflect-line (at c) (pos 0 +ℤ pos j)) (length c) (reverse c) (length-reverse c)
     (λ i h. let e : negℤ (pos 0 +ℤ pos i +ℤ pos 1) ≡ negsuc i = omega (arith, ints) in
-      getD-reverse c i 0 h ∙ ap (λ k. getD c (length c - 1 - k) 0) (sym (mod-eq-of-lt h)) ∙ ap (at c) (sym e)))
+    getD-reverse c i 0 h ∙ ap (λ k. getD c (length c - 1 - k) 0) (sym (mod-eq-of-lt h)) ∙ ap (at c) (sym e)))
 
 -- the first stray code
 

@@ -1,3 +1,4 @@
 pub mod Windows
 pub mod Tables
 pub mod Elementary
+pub mod Maps

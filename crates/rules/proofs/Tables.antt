@@ -153,7 +153,7 @@ module _ (q : ℕ) (lo hi : ℤ) (store ws : List ℕ) (w : ℕ) (fits : table-f
   table-reads i k =
       let r = readable q w ws h in
       let value : getD (stored q lo hi store) (entry-index q ws) 0 ≡ getD store i 0 =
-        ap (λ n. getD (stored q lo hi store) n 0) (sym k) ∙ getD-take (q ^ span lo hi) store i 0 (index-inside i k) in
+      ap (λ n. getD (stored q lo hi store) n 0) (sym k) ∙ getD-take (q ^ span lo hi) store i 0 (index-inside i k) in
       sym (ap (λ n. checked q n ws (getD (stored q lo hi store) (entry-index q ws) 0)) (sym e) ∙ checked-readable q w ws r (getD (stored q lo hi store) (entry-index q ws) 0) ∙ ap Ok value)
 
 -- a table that was made from its entries

@@ -4,4 +4,5 @@ pub mod Answers
 pub mod Tables
 pub mod Elementary
 pub mod Maps
+pub mod Steps
 pub mod Worked

@@ -43,8 +43,8 @@ bad-entry (Some i) = Some (BadEntry i)
 abbrev pub table-fault : ℕ → ℤ → ℤ → List ℕ → Option RuleFault
 table-fault q lo hi entries =
     cond (table-fits q lo hi)
-      (cond (eqb (length entries) (q ^ span lo hi)) (bad-entry (first-stray q entries)) (Some WrongLength))
-      (Some OutOfRange)
+    (cond (eqb (length entries) (q ^ span lo hi)) (bad-entry (first-stray q entries)) (Some WrongLength))
+    (Some OutOfRange)
 
 -- The entries, which stand at the front of a table's store.
 abbrev pub stored : ℕ → ℤ → ℤ → List ℕ → List ℕ

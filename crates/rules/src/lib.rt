@@ -5,10 +5,12 @@ ghost use Rattle.rings.specs.Automaton.{Automaton, Lawful};
 ghost use Rattle.rules.specs.Answers.{shape-of, ends, next-answer, previous-answer};
 
 mod fault;
+mod map;
 mod table;
 mod window;
 
 pub use fault::RuleFault;
+pub use map::map_ring;
 pub use table::Table;
 pub use table::TableRule;
 pub use window::check_window;

@@ -22,10 +22,15 @@ use rings::first_stray;
 use rings::interval_width;
 
 const MAX_STATES: u32 = 1024;
+
 const MAX_ENTRIES: usize = 1024;
+
 const MIN_END: i32 = -128;
+
 const MAX_END: i32 = 128;
+
 const MAX_WIDTH: usize = 64;
+
 const ELEMENTARY_ENTRIES: usize = 8;
 
 // A rule by its entries, which stand at the front of the store. None of them is `states` or more.
@@ -129,7 +134,13 @@ fn entry_count(states: u32, lo: i32, hi: i32) -> Option<usize>
     ensures { λ r. ⌜ r ≡ cond (table-fits states lo hi) (Some (states ^ span lo hi)) None ⌝ }
 {
     let width = interval_width(lo, hi);
-    if states < 1 || states > MAX_STATES || lo < MIN_END || lo > hi || hi > MAX_END || width > MAX_WIDTH {
+    if states < 1
+        || states > MAX_STATES
+        || lo < MIN_END
+        || lo > hi
+        || hi > MAX_END
+        || width > MAX_WIDTH
+    {
         return None;
     }
     power_within(states as usize, width, MAX_ENTRIES)

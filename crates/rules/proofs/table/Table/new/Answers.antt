@@ -32,7 +32,7 @@ ghost-result c =
     let count = plain (c .args .states) (c .args .lo) (c .args .hi) (c .in-Some .count) (c .fits .lo) (c .fits .hi) (c .in-Some .ensures tt) in
     let len : length (c .args .entries .now) ≡ c .in-Some .count = omega arith in
     let m : Made (c .args .states) (c .args .lo) (c .args .hi) (c .args .entries .now) (c .padded .result) =
-      made (c .args .states) (c .args .lo) (c .args .hi) (c .args .entries .now) (c .padded .result) (c .in-Some .count) count len (c .in-rest-first-stray .ensures tt .answer) (c .padded .ensures) in
+    made (c .args .states) (c .args .lo) (c .args .hi) (c .args .entries .now) (c .padded .result) (c .in-Some .count) count len (c .in-rest-first-stray .ensures tt .answer) (c .padded .ensures) in
     let f : SFits w32 (c .args .lo) = c .fits .lo in
     let k : SFits w32 (c .args .hi) = c .fits .hi in
     simp toZ-ofZ (m .fits, (ap (λ es. isSome (first-stray (c .args .states) es)) (m .holds) ∙ ap isSome (sym (c .in-rest-first-stray .ensures tt .answer)), tt))
@@ -42,7 +42,7 @@ returns c =
     let count = plain (c .args .states) (c .args .lo) (c .args .hi) (c .in-Some .count) (c .fits .lo) (c .fits .hi) (c .in-Some .ensures tt) in
     let len : length (c .args .entries .now) ≡ c .in-Some .count = omega arith in
     let m : Made (c .args .states) (c .args .lo) (c .args .hi) (c .args .entries .now) (c .padded .result) =
-      made (c .args .states) (c .args .lo) (c .args .hi) (c .args .entries .now) (c .padded .result) (c .in-Some .count) count len (c .in-rest-first-stray .ensures tt .answer) (c .padded .ensures) in
+    made (c .args .states) (c .args .lo) (c .args .hi) (c .args .entries .now) (c .padded .result) (c .in-Some .count) count len (c .in-rest-first-stray .ensures tt .answer) (c .padded .ensures) in
     let f : SFits w32 (c .args .lo) = c .fits .lo in
     let k : SFits w32 (c .args .hi) = c .fits .hi in
     record { answer = simp toZ-ofZ (m .fault, ap (table (c .args .states) (c .args .lo) (c .args .hi)) (m .holds)) }
