@@ -10,7 +10,7 @@ use lib.ListN.{length, getD, take, drop, set}
 use native.Mathlib.Omega.{arith}
 use native.Mathlib.Nat.{zero-add}
 use borrow.Author.Count.{below-more}
-use Rattle.std.proofs.shelf.Lists.{getD-set-same, getD-set-other, drop-take, take-take}
+use Rattle.std.proofs.shelf.Lists.{append-nil, drop-all, getD-set-same, getD-set-other, drop-take, take-take}
 use Rattle.std.proofs.shelf.Signed.{ints}
 use Rattle.std.proofs.shelf.Tests.{eqb-false, ltb-false, ltb-true}
 use Rattle.std.specs.Numbers.{remEuclid}
@@ -32,7 +32,7 @@ use Rattle.rings.proofs.Local.{length-window, codes-window, length-ring-map, ri
 use Rattle.rules.specs.declared.fault.RuleFault.{RuleFault}
 use Rattle.rules.specs.declared.fault.RuleFault.the-variants.{EmptyRing, LongRing, ShortBuffer, NoInverse}
 use Rattle.rules.specs.Answers.{ends, answer}
-use Rattle.rules.specs.Maps.{stray-fault, ring-fault, map-fault, outcome, image, written-over, unless-refused, one-step, Step-law, Step-laws}
+use Rattle.rules.specs.Maps.{stray-fault, ring-fault, map-fault, outcome, map-answer, image, written-over, unless-refused, map-buffer, one-step, Step-law, Step-laws}
 use Rattle.rules.specs.Steps.{value-of, Reads, Placed, part}
 use Rattle.rules.proofs.Windows.{checked-readable}
 
@@ -161,3 +161,13 @@ step-laws Backward a = by (a .inverse) refl where
   by : (o : Option Local) → a .inverse ≡ o → Cases o (Unit {0}) (Step-law Backward a)
   by None e = tt
   by (Some g) e = record { rotation = ring-map-rotate g; one = λ c. rw e }
+
+-- a ring that is mapped into a buffer of its own length fills it with its image
+pub mapped-whole : (d : Direction) (a : Automaton) (ring buffer : List ℕ) → Ok tt ≡ map-answer d a ring buffer → length buffer ≡ length ring → map-buffer d a ring buffer ≡ image (toward d a) ring
+mapped-whole d a ring buffer accepted long = by (map-fault (a .states) (toward d a) ring (length buffer)) accepted where
+  whole : List ℕ
+  whole = image (toward d a) ring
+
+  by : (o : Option RuleFault) → Ok tt ≡ outcome o → unless-refused o (written-over whole buffer) buffer ≡ whole
+  by None h = ap (λ rest. whole ++ rest) (drop-all (length whole) buffer (omega (arith, length-image (toward d a) ring))) ∙ append-nil whole
+  by (Some f) h = let z : _≡_ {A = ℕ} 0 1 = cc in absurd (omega arith)

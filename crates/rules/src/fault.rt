@@ -1,6 +1,7 @@
 // Why a rule refuses: the cases, their numbers and their places.
 ghost use mathlib.Core.Path.{_≡_};
 ghost use Rattle.rules.specs.Faults.{fault-number, fault-place};
+use std::error::Error;
 use std::fmt;
 
 #[derive(Clone, Copy, PartialEq, Eq, Debug)]
@@ -65,3 +66,5 @@ pub impl fmt::Display for RuleFault as RuleFaultDisplay {
         }
     }
 }
+
+pub impl Error for RuleFault as RuleFaultError {}

@@ -10,6 +10,10 @@ mod table;
 mod window;
 
 pub use fault::RuleFault;
+pub use fault::RuleFaultDebug;
+pub use fault::RuleFaultDisplay;
+pub use fault::RuleFaultError;
+pub use fault::RuleFaultPartialEq;
 pub use map::map_ring;
 pub use table::Table;
 pub use table::TableRule;

@@ -174,8 +174,8 @@ fn index_of(window: &[u32], states: u32) -> usize
     ensures { λ r. ⌜ r ≡ entry-index states (now (window .entry)) ⌝ }
 {
     let mut index = 0;
-    for code in window {
-        index = index * states as usize + *code as usize;
+    for i in 0..window.len() {
+        index = index * states as usize + window[i] as usize;
     }
     index
 }

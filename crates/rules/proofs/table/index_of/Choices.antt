@@ -3,5 +3,5 @@ use lib.ListN.{take}
 use Rattle.rules.specs.Tables.{entry-index}
 use Rattle.rules.proofs.table.index_of.Given as given
 
-abbrev pub Inv-loop-code : given.InvT-loop-code
-Inv-loop-code l = l .index ≡ entry-index (l .states) (take (l .code-index) (l .window))
+abbrev pub Inv-loop-i : given.InvT-loop-i
+Inv-loop-i l = l .index ≡ entry-index (l .states) (take (l .i) (l .window))

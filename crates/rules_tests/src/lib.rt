@@ -1,0 +1,5 @@
+// Examples for the crate `rules`, as tests.
+#[cfg(test)]
+mod maps;
+#[cfg(test)]
+mod tables;
