@@ -2,3 +2,4 @@ pub mod Windows
 pub mod Tables
 pub mod Elementary
 pub mod Maps
+pub mod Lifts

@@ -22,6 +22,8 @@ pub enum RuleFault {
     OutOfRange,
     // The entry at this index is out of its range.
     BadEntry(usize),
+    // The rule is too large to be lifted.
+    Unliftable,
 }
 
 impl RuleFault {
@@ -38,6 +40,7 @@ impl RuleFault {
             RuleFault::WrongLength => 8,
             RuleFault::OutOfRange => 9,
             RuleFault::BadEntry(_) => 10,
+            RuleFault::Unliftable => 11,
         }
     }
 
@@ -63,6 +66,7 @@ pub impl fmt::Display for RuleFault as RuleFaultDisplay {
             RuleFault::WrongLength => f.write_str("the window or list has a wrong length"),
             RuleFault::OutOfRange => f.write_str("a size is out of its range"),
             RuleFault::BadEntry(i) => write!(f, "the entry at index {i} is out of its range"),
+            RuleFault::Unliftable => f.write_str("the rule is too large to be lifted"),
         }
     }
 }
