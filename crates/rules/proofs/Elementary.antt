@@ -1,4 +1,4 @@
--- Lemmas on the elementary automata: Wolfram's numbering, and the worked rings.
+-- Lemmas on the elementary automata: Wolfram's numbering, and the bits of a number as entries.
 use Prim.Native.Nat.{ℕ, _+_, _*_, _<_, _^_}
 use mathlib.Core.Path.{_≡_, refl, sym, ap, _∙_}
 use mathlib.Core.Bool.{false}
@@ -9,16 +9,13 @@ use native.Mathlib.Omega.{arith}
 use native.Mathlib.Nat.{mod-lt}
 use Rattle.std.proofs.shelf.Signed.{ints}
 use Rattle.std.specs.Options.{isSome}
-use Rattle.rings.specs.Integers.{floor-mod}
-use Rattle.rings.specs.Line.{Line, tabulate, window, power}
+use Rattle.rings.specs.Line.{Line, tabulate, window}
 use Rattle.rings.specs.Ring.{at, Ring, Codes, first-stray}
-use Rattle.rings.specs.Local.{ring-map}
 use Rattle.rings.proofs.Line.{length-tabulate, getD-tabulate}
 use Rattle.rings.proofs.Ring.{below-at, first-stray-codes}
 use Rattle.rings.proofs.Local.{getD-ring-map, length-window, codes-window}
 use Rattle.rules.specs.Tables.{entry-index}
 use Rattle.rules.specs.Elementary.{bit, elementary, Wolfram-numbered}
-use Rattle.rules.specs.Worked.{Worked-rings}
 use Rattle.rules.proofs.Tables.{entry-index-lt}
 
 -- the entry of a window of three cells
@@ -47,7 +44,3 @@ bits-codes n = ap isSome (first-stray-codes 0 2 (tabulate (bit n) 8) (λ k l.
 -- the bits at the front of a store
 pub bits-stored : (n : ℕ) (bits store : List ℕ) → bits ≡ tabulate (bit n) 8 → take (length bits) store ≡ bits → take 8 store ≡ tabulate (bit n) 8
 bits-stored n bits store e front = ap (λ k. take k store) (sym (ap length e ∙ length-tabulate (bit n) 8)) ∙ front ∙ e
-
-pub worked-rings : Worked-rings
-unfolding ring-map tabulate floor-mod power entry-index
-worked-rings = record { first-step = refl; second-step = refl; one-cell = refl }

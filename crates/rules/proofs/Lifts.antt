@@ -29,8 +29,7 @@ use Rattle.rings.proofs.Ring.{same-ring, below-at}
 use Rattle.rings.proofs.Local.{length-ring-map, at-ring-map, below-line-map}
 use Rattle.rules.specs.declared.Shape.{Shape}
 use Rattle.rules.specs.Answers.{shape-of, ends, checked, answer}
-use Rattle.rules.specs.Tables.{entry-index}
-use Rattle.rules.specs.Lifts.{hull-lo, hull-hi, hull-span, first-index, own-index, now-of, before-of, minus, half, rejoined, halves, halves-value, own-code, lift-value, lift-local, lifted, liftable, lift-or, lift-shape, opposite, Second-order, Same-interval, Reversible, Lift-laws, identity-of-three}
+use Rattle.rules.specs.Lifts.{hull-lo, hull-hi, hull-span, first-index, own-index, now-of, before-of, minus, half, rejoined, halves, halves-value, own-code, lift-value, lift-local, lifted, liftable, lift-or, lift-shape, opposite, Second-order, Same-interval, Reversible, Lift-laws}
 use Rattle.rules.specs.declared.fault.RuleFault.{RuleFault}
 use Rattle.rules.specs.declared.lift.Frame.{Frame}
 use Rattle.rules.specs.Frames.{frame-of, framed-halves}
@@ -342,13 +341,3 @@ lift-laws a s = by (liftable (shape-of a)) refl where
     stays = λ h. ap (λ b. cond b (lifted a) a) e;
     tells = rw e refl;
   }
-
--- worked rings
-
-pub worked-lift-forward : after (lift-or identity-of-three) (pos 1) (7 ∷ []) ≡ 5 ∷ []
-unfolding ring-map tabulate floor-mod power entry-index lift-value
-worked-lift-forward = refl
-
-pub worked-lift-backward : after (lift-or identity-of-three) (negsuc 0) (5 ∷ []) ≡ 7 ∷ []
-unfolding ring-map tabulate floor-mod power entry-index lift-value
-worked-lift-backward = refl

@@ -8,4 +8,3 @@ pub mod Steps
 pub mod Lifts
 pub mod Frames
 pub mod Choices
-pub mod Worked

@@ -2,7 +2,7 @@
 use Prim.Native.Nat.{ℕ, _+_, _-_, _*_, _/_, _%_}
 use mathlib.Core.Path.{_≡_}
 use mathlib.Core.Bool.{Bool, true, false, cond, _&&_, _||_}
-use mathlib.Core.List.{List, [], _∷_, map}
+use mathlib.Core.List.{List, map}
 use lib.Dec.{leb}
 use lib.IntN.{ℤ, pos, _-ℤ_, natAbs}
 use lib.ListN.{getD}
@@ -17,7 +17,6 @@ use Rattle.rings.specs.Local.{Local, span, width, ring-map}
 use Rattle.rings.specs.Automaton.{Automaton, Inverse, toward}
 use Rattle.rules.specs.declared.Shape.{Shape}
 use Rattle.rules.specs.Answers.{shape-of}
-use Rattle.rules.specs.Tables.{table}
 
 -- The hull of an interval from lo to hi: the smallest interval that holds it and 0. This is its lower end.
 abbrev pub hull-lo : ℤ → ℤ
@@ -136,7 +135,3 @@ pub record Lift-laws (a : Automaton) : Type 0 where
   pub lifts : liftable (shape-of a) ≡ true → Reversible a (lift-or a)
   pub stays : liftable (shape-of a) ≡ false → lift-or a ≡ a
   pub tells : isSome (lift-or a .inverse) ≡ (liftable (shape-of a) || isSome (a .inverse))
-
--- The identity on three states.
-abbrev pub identity-of-three : Automaton
-identity-of-three = table 3 (pos 0) (pos 0) (0 ∷ 1 ∷ 2 ∷ [])

@@ -12,7 +12,6 @@ ghost use Rattle.rings.specs.Local.{span};
 ghost use Rattle.rings.specs.Ring.{Codes, first-stray};
 ghost use Rattle.rules.specs.Tables.{entry-index, table, table-fits, table-fault, stored, stored-table};
 ghost use Rattle.rules.specs.Elementary.{bit, elementary, Wolfram-numbered};
-ghost use Rattle.rules.specs.Worked.{Worked-rings};
 ghost use Rattle.rules.specs.Kinds.{table-kind};
 use crate::Rule;
 use crate::RuleFault;
@@ -70,7 +69,6 @@ impl Table {
     pub fn elementary(number: u8) -> Table
         ensures answer { λ r. ⌜ stored-table (r .states) (r .lo) (r .hi) (r .store) ≡ elementary number ⌝ }
         ensures law { λ r. ⌜ Wolfram-numbered number (stored-table (r .states) (r .lo) (r .hi) (r .store)) ⌝ }
-        ensures worked { λ _. ⌜ Worked-rings ⌝ }
     {
         Table {
             states: 2,
