@@ -1,3 +1,4 @@
 pub mod Machines
 pub mod Transitions
+pub mod Drawings
 pub mod Worked

@@ -7,8 +7,10 @@ ghost use Rattle.std.specs.Options.{Cases as OptionCases};
 ghost use Rattle.std.specs.Results.{Cases};
 ghost use Rattle.rings.specs.Ring.{Codes};
 ghost use Rattle.rules.specs.declared.fault.RuleFault.the-variants.{OutOfRange};
-ghost use Rattle.machines.specs.Turing.{code-of, arriving, next-symbol, next-code, turing};
-ghost use Rattle.machines.specs.Cells.{acts};
+ghost use Rattle.rings.specs.Line.{tabulate};
+ghost use Rattle.machines.specs.Turing.{Steps-as-its-machine, code-of, arriving, next-symbol, next-code, turing};
+ghost use Rattle.machines.specs.Cells.{acts, drawn-cell};
+ghost use Rattle.machines.specs.Drawings.{draw-fault, draw-answer, draw-buffer};
 ghost use Rattle.machines.specs.Transitions.{turing-kind, listed, machine-fits, all-fit, new-transition, new-list, Idles, transition-of, enter-answer, enter-list, Enters};
 ghost use Rattle.machines.specs.Worked.{Worked-rings};
 use crate::transition::MAX_TRANSITIONS;
@@ -17,6 +19,7 @@ use crate::transition::Transition;
 use crate::transition::Transitions;
 use crate::transition::is_same;
 use crate::transition::transition_from;
+use rings::first_stray;
 use rules::Rule;
 use rules::RuleFault;
 use rules::Shape;
@@ -75,6 +78,20 @@ impl Turing {
         self.transitions.put(index, transition);
         Ok(())
     }
+
+    // Writes the ring of a configuration, a circular tape with one head on it, into the first cells of a buffer.
+    pub fn draw(&self, tape: &[u32], position: usize, state: u32, buffer: &mut [u32]) -> Result<(), RuleFault>
+        ensures answer { λ r. ⌜ r ≡ draw-answer (listed (now (self .entry) .symbols) (now (self .entry) .heads) (now (self .entry) .transitions .list)) (record { tape = now (tape .entry); position = position; state = state }) (now (buffer .entry)) ⌝ }
+        ensures buffer { λ _. ⌜ now (buffer .exit) ≡ draw-buffer (listed (now (self .entry) .symbols) (now (self .entry) .heads) (now (self .entry) .transitions .list)) (record { tape = now (tape .entry); position = position; state = state }) (now (buffer .entry)) ⌝ }
+        ensures law { λ _. ⌜ Steps-as-its-machine (listed (now (self .entry) .symbols) (now (self .entry) .heads) (now (self .entry) .transitions .list)) ⌝ }
+    {
+        if let Some(fault) = draw_refusal(self, tape, position, state, buffer.len()) {
+            return Err(fault);
+        }
+        let n = tape.len();
+        write_cells(self.symbols, tape, position, state, &mut buffer[0..n]);
+        Ok(())
+    }
 }
 
 pub impl Rule for Turing as TuringRule {
@@ -107,6 +124,40 @@ pub impl Rule for Turing as TuringRule {
 
     fn previous(&self, _window: &[u32]) -> Result<u32, RuleFault> {
         Err(RuleFault::NoInverse)
+    }
+}
+
+// Why a configuration is not drawn into a buffer of `room` cells, if it is not.
+fn draw_refusal(machine: &Turing, tape: &[u32], position: usize, state: u32, room: usize) -> Option<RuleFault>
+    ensures { λ r. ⌜ r ≡ draw-fault (listed (now (machine .entry) .symbols) (now (machine .entry) .heads) (now (machine .entry) .transitions .list)) (record { tape = now (tape .entry); position = position; state = state }) room ⌝ }
+{
+    if tape.is_empty() {
+        return Some(RuleFault::EmptyRing);
+    }
+    if position >= tape.len() {
+        return Some(RuleFault::OutOfRange);
+    }
+    if state >= machine.heads {
+        return Some(RuleFault::OutOfRange);
+    }
+    if let Some(index) = first_stray(tape, machine.symbols) {
+        return Some(RuleFault::BadEntry(index));
+    }
+    if room < tape.len() {
+        return Some(RuleFault::ShortBuffer);
+    }
+    None
+}
+
+// Writes the codes of a tape with one head.
+fn write_cells(symbols: u32, tape: &[u32], position: usize, state: u32, cells: &mut [u32])
+    requires sizes { ⌜ symbols ≤ 64 ⌝ ∗ ⌜ state < 64 ⌝ ∗ ⌜ length (now cells) ≡ length (now tape) ⌝ }
+    requires codes { ⌜ Codes symbols (now tape) ⌝ }
+    ensures { λ _. ⌜ now (cells .exit) ≡ tabulate (drawn-cell symbols (now (tape .entry)) position state) (length (now (tape .entry))) ⌝ }
+{
+    for i in 0..tape.len() {
+        let head = if i == position { Some(state) } else { None };
+        cells[i] = code_with(symbols, tape[i], head);
     }
 }
 
