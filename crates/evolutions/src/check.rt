@@ -6,10 +6,15 @@ ghost use lib.ListN.{length};
 ghost use Rattle.std.specs.Of.Vec.{vec-items, vec-len};
 ghost use Rattle.std.specs.Vec.{made};
 ghost use Rattle.rings.specs.Automaton.{after};
+use crate::vectors::Beaver;
 use crate::vectors::Rows;
 use crate::vectors::Run;
+use machines::Move;
+use machines::Turing;
+use machines::TuringRule;
 use rings::Direction;
 use rules::Rule;
+use rules::RuleFault;
 use rules::RuleFaultError;
 use rules::Table;
 use rules::TableRule;
@@ -17,6 +22,11 @@ use rules::map_ring;
 use std::alloc::AllocError;
 use std::alloc::Global;
 use std::error::AnyError;
+
+// A tape so long that the busy beaver does not come round, and more steps than it makes.
+const BEAVER_CELLS: usize = 16;
+
+const MAX_BEAVER_STEPS: usize = 32;
 
 // Where an evolution and what was published first differ.
 #[derive(Drop)]
@@ -37,6 +47,64 @@ fn evolve<R: Rule>(heap: Global, rule: &R, ring: &[u32], steps: usize) -> Result
         std::mem::swap(&mut current, &mut next);
     }
     Ok(current)
+}
+
+// The busy beaver of two states, whose third state is the halt: a new machine's transitions change nothing.
+fn busy_beaver() -> Result<Turing, RuleFault> {
+    let mut machine = Turing::new(2, 3)?;
+    let right = Move::Right.number();
+    let left = Move::Left.number();
+    machine.enter(0, 1, right, 1)?;
+    machine.enter(1, 1, left, 1)?;
+    machine.enter(2, 1, left, 0)?;
+    machine.enter(3, 1, right, 2)?;
+    Ok(machine)
+}
+
+// How many symbols of a ring of the busy beaver are 1, and whether its head has halted.
+fn ones_and_halt(ring: &[u32]) -> (usize, bool) {
+    let mut ones: usize = 0;
+    let mut halted = false;
+    for code in ring {
+        if *code % 2 == 1 {
+            ones = ones.saturating_add(1);
+        }
+        if *code / 2 == 3 {
+            halted = true;
+        }
+    }
+    (ones, halted)
+}
+
+// Whether the busy beaver, on an empty circular tape, halts at the published step with the published number of ones.
+pub(crate) fn check_beaver(
+    heap: Global,
+    published: &Beaver,
+) -> Result<Option<Difference>, AnyError> {
+    let machine = busy_beaver()?;
+    let tape = vec![in heap; 0; BEAVER_CELLS]?;
+    let mut ring = vec![in heap; 0; BEAVER_CELLS]?;
+    machine.draw(&tape, BEAVER_CELLS / 2, 0, &mut ring)?;
+    let mut steps: usize = 0;
+    for step in 0..MAX_BEAVER_STEPS {
+        let (_, halted) = ones_and_halt(&ring);
+        if halted {
+            break;
+        }
+        ring = evolve(heap, &machine, &ring, 1)?;
+        steps = step + 1;
+    }
+    let (ones, _) = ones_and_halt(&ring);
+    if steps == published.steps && ones == published.ones {
+        return Ok(None);
+    }
+    let expected_steps = published.steps;
+    let expected_ones = published.ones;
+    Ok(Some(Difference {
+        row: steps,
+        expected: format!(heap, "{expected_ones} ones after {expected_steps} steps")?,
+        found: format!(heap, "{ones} ones after {steps} steps")?,
+    }))
 }
 
 // The cells of a ring that is written with the digits 0 and 1.

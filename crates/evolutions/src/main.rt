@@ -1,13 +1,15 @@
-// Checks published evolutions of elementary automata through the proved library, and tells how each came out.
+// Checks published evolutions of automata through the proved library, and tells how each came out.
 mod check;
 #[cfg(test)]
 mod tests;
 mod vectors;
 
 use check::Difference;
+use check::check_beaver;
 use check::check_rows;
 use check::check_run;
 use std::error::AnyError;
+use vectors::BEAVER;
 use vectors::ROWS;
 use vectors::RUNS;
 
@@ -63,6 +65,11 @@ fn run(rt: &LibcRuntime) -> Result<(), AnyError> {
         )?;
         totals.tell(rt, check_run(rt.alloc(), published)?)?;
     }
+    print!(
+        rt,
+        "busy beaver of 2 states on a circular tape, Rado and Lin: "
+    )?;
+    totals.tell(rt, check_beaver(rt.alloc(), &BEAVER)?)?;
     let Totals { agree, differ } = totals;
     let all = agree.saturating_add(differ);
     println!(

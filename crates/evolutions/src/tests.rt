@@ -1,6 +1,8 @@
 // A published evolution with an error in it is told.
+use crate::check::check_beaver;
 use crate::check::check_rows;
 use crate::check::check_run;
+use crate::vectors::Beaver;
 use crate::vectors::Rows;
 use crate::vectors::Run;
 use std::test::*;
@@ -34,4 +36,14 @@ fn a_wrong_ring_is_told(rt: LibcRuntime) -> Result<(), Fail> {
     check_eq(difference.row, 2)?;
     check(difference.expected.as_str() == "0110")?;
     check(difference.found.as_str() == "0111")
+}
+
+#[test]
+fn a_wrong_halt_is_told(rt: LibcRuntime) -> Result<(), Fail> {
+    let beaver = Beaver { steps: 7, ones: 4 };
+    let Some(difference) = check_beaver(rt.alloc(), &beaver)? else {
+        return Err(Fail::new("taken for right"));
+    };
+    check(difference.expected.as_str() == "4 ones after 7 steps")?;
+    check(difference.found.as_str() == "4 ones after 6 steps")
 }

@@ -1,4 +1,5 @@
-// Evolutions that others published, from the On-Line Encyclopedia of Integer Sequences (OEIS) and from Golly 3.3.
+// Evolutions that others published, from the On-Line Encyclopedia of Integer Sequences (OEIS) from Golly 3.3,
+// and from the literature on busy beavers.
 
 // The rows of an elementary automaton from a single 1 on. Row k is the binary number of the 2k + 1 cells around the first one.
 #[derive(Clone, Copy)]
@@ -18,6 +19,16 @@ pub(crate) struct Run {
     pub(crate) first: &'static str,
     pub(crate) last: &'static str,
 }
+
+// When the busy beaver of two states and two symbols halts, and how many ones it leaves.
+#[derive(Clone, Copy)]
+pub(crate) struct Beaver {
+    pub(crate) steps: usize,
+    pub(crate) ones: usize,
+}
+
+// T. Rado, On non-computable functions, 1962; S. Lin and T. Rado, 1965.
+pub(crate) const BEAVER: Beaver = Beaver { steps: 6, ones: 4 };
 
 pub(crate) const ROWS: [Rows; 5] = [
     Rows {

@@ -23,11 +23,11 @@ pub record Drawable (m : Machine) (c : Configuration) (room : ℕ) : Type 0 wher
 pub drawable : (m : Machine) (c : Configuration) (room : ℕ) → None ≡ draw-fault m c room → Drawable m c room
 drawable m c room =
     by (eqb (length (c .tape)) 0) (leb (length (c .tape)) (c .position)) (leb (m .heads) (c .state)) (first-stray (m .symbols) (c .tape)) (ltb room (length (c .tape))) refl (is-first-stray (m .symbols) (c .tape)) refl where
-  by : (e p s : Bool) (o : Option ℕ) (r : Bool) → leb (m .heads) (c .state) ≡ s → Is-first-stray (m .symbols) (c .tape) o → ltb room (length (c .tape)) ≡ r
-      → None ≡ cond e (Some EmptyRing) (cond p (Some OutOfRange) (cond s (Some OutOfRange) (bad-symbol o (cond r (Some ShortBuffer) None)))) → Drawable m c room
-  by true p s o r es is er h = let z : _≡_ {A = ℕ} 0 1 = cc in absurd (omega arith)
-  by false true s o r es is er h = let z : _≡_ {A = ℕ} 0 1 = cc in absurd (omega arith)
-  by false false true o r es is er h = let z : _≡_ {A = ℕ} 0 1 = cc in absurd (omega arith)
-  by false false false (Some i) r es is er h = let z : _≡_ {A = ℕ} 0 1 = cc in absurd (omega arith)
-  by false false false None true es is er h = let z : _≡_ {A = ℕ} 0 1 = cc in absurd (omega arith)
-  by false false false None false es is er h = record { state = leb-false _ _ es; codes = is; fits = ltb-false _ _ er }
+      by : (e p s : Bool) (o : Option ℕ) (r : Bool) → leb (m .heads) (c .state) ≡ s → Is-first-stray (m .symbols) (c .tape) o → ltb room (length (c .tape)) ≡ r
+          → None ≡ cond e (Some EmptyRing) (cond p (Some OutOfRange) (cond s (Some OutOfRange) (bad-symbol o (cond r (Some ShortBuffer) None)))) → Drawable m c room
+      by true p s o r es is er h = let z : _≡_ {A = ℕ} 0 1 = cc in absurd (omega arith)
+      by false true s o r es is er h = let z : _≡_ {A = ℕ} 0 1 = cc in absurd (omega arith)
+      by false false true o r es is er h = let z : _≡_ {A = ℕ} 0 1 = cc in absurd (omega arith)
+      by false false false (Some i) r es is er h = let z : _≡_ {A = ℕ} 0 1 = cc in absurd (omega arith)
+      by false false false None true es is er h = let z : _≡_ {A = ℕ} 0 1 = cc in absurd (omega arith)
+      by false false false None false es is er h = record { state = leb-false _ _ es; codes = is; fits = ltb-false _ _ er }

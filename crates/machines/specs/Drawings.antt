@@ -22,9 +22,9 @@ bad-symbol (Some i) o = Some (BadEntry i)
 abbrev pub draw-fault : Machine → Configuration → ℕ → Option RuleFault
 draw-fault m c room =
     cond (eqb (length (c .tape)) 0) (Some EmptyRing)
-      (cond (leb (length (c .tape)) (c .position)) (Some OutOfRange)
-        (cond (leb (m .heads) (c .state)) (Some OutOfRange)
-          (bad-symbol (first-stray (m .symbols) (c .tape)) (cond (ltb room (length (c .tape))) (Some ShortBuffer) None))))
+    (cond (leb (length (c .tape)) (c .position)) (Some OutOfRange)
+    (cond (leb (m .heads) (c .state)) (Some OutOfRange)
+    (bad-symbol (first-stray (m .symbols) (c .tape)) (cond (ltb room (length (c .tape))) (Some ShortBuffer) None))))
 
 abbrev pub draw-answer : Machine → Configuration → List ℕ → Result (Unit {0}) RuleFault
 draw-answer m c buffer = outcome (draw-fault m c (length buffer))

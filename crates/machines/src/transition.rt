@@ -77,7 +77,13 @@ impl Transitions {
 }
 
 // The transition of three numbers, if they are those of a machine with so many symbols and states of a head.
-pub(crate) fn transition_from(symbols: u32, heads: u32, write: u32, step: u32, next: u32) -> Option<Transition>
+pub(crate) fn transition_from(
+    symbols: u32,
+    heads: u32,
+    write: u32,
+    step: u32,
+    next: u32,
+) -> Option<Transition>
     ensures { λ r. ⌜ r ≡ transition-of symbols heads write step next ⌝ }
 {
     let step = Move::from_number(step)?;

@@ -26,8 +26,11 @@ use rules::Shape;
 use rules::check_window;
 
 const MAX_SYMBOLS: u32 = 64;
+
 const MAX_HEADS: u32 = 64;
+
 const WIDTH: usize = 3;
+
 const IDLE: Transition = Transition {
     write: 0,
     step: Move::Stay,
@@ -80,7 +83,13 @@ impl Turing {
     }
 
     // Writes the ring of a configuration, a circular tape with one head on it, into the first cells of a buffer.
-    pub fn draw(&self, tape: &[u32], position: usize, state: u32, buffer: &mut [u32]) -> Result<(), RuleFault>
+    pub fn draw(
+        &self,
+        tape: &[u32],
+        position: usize,
+        state: u32,
+        buffer: &mut [u32],
+    ) -> Result<(), RuleFault>
         ensures answer { λ r. ⌜ r ≡ draw-answer (listed (now (self .entry) .symbols) (now (self .entry) .heads) (now (self .entry) .transitions .list)) (record { tape = now (tape .entry); position = position; state = state }) (now (buffer .entry)) ⌝ }
         ensures buffer { λ _. ⌜ now (buffer .exit) ≡ draw-buffer (listed (now (self .entry) .symbols) (now (self .entry) .heads) (now (self .entry) .transitions .list)) (record { tape = now (tape .entry); position = position; state = state }) (now (buffer .entry)) ⌝ }
         ensures law { λ _. ⌜ Steps-as-its-machine (listed (now (self .entry) .symbols) (now (self .entry) .heads) (now (self .entry) .transitions .list)) ⌝ }
@@ -114,7 +123,7 @@ pub impl Rule for Turing as TuringRule {
     }
 
     fn inverse(&self) -> Option<(i32, i32)> {
-        None
+        None // whatever its transitions are
     }
 
     fn next(&self, window: &[u32]) -> Result<u32, RuleFault> {
@@ -128,7 +137,13 @@ pub impl Rule for Turing as TuringRule {
 }
 
 // Why a configuration is not drawn into a buffer of `room` cells, if it is not.
-fn draw_refusal(machine: &Turing, tape: &[u32], position: usize, state: u32, room: usize) -> Option<RuleFault>
+fn draw_refusal(
+    machine: &Turing,
+    tape: &[u32],
+    position: usize,
+    state: u32,
+    room: usize,
+) -> Option<RuleFault>
     ensures { λ r. ⌜ r ≡ draw-fault (listed (now (machine .entry) .symbols) (now (machine .entry) .heads) (now (machine .entry) .transitions .list)) (record { tape = now (tape .entry); position = position; state = state }) room ⌝ }
 {
     if tape.is_empty() {
@@ -229,7 +244,11 @@ fn next_code_of(machine: &Turing, left: u32, own: u32, right: u32) -> u32
 fn fits(symbols: u32, heads: u32) -> bool
     ensures { λ r. ⌜ r ≡ machine-fits symbols heads ⌝ }
 {
-    1 <= symbols && symbols <= MAX_SYMBOLS && 1 <= heads && heads <= MAX_HEADS && (symbols * heads) as usize <= MAX_TRANSITIONS
+    1 <= symbols
+        && symbols <= MAX_SYMBOLS
+        && 1 <= heads
+        && heads <= MAX_HEADS
+        && (symbols * heads) as usize <= MAX_TRANSITIONS
 }
 
 // The transitions of a machine that changes nothing.

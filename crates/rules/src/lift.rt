@@ -20,7 +20,9 @@ use rings::Direction;
 use rings::interval_width;
 
 const LIFT_KIND: u16 = 0x0020;
+
 const MAX_STATES: u64 = 16_777_216;
+
 const MAX_WIDTH: usize = 64;
 
 // A lift over a rule. Over a rule that cannot be lifted it acts as the rule itself.
@@ -149,7 +151,14 @@ fn shape_over(shape: Shape) -> Shape
 }
 
 // Writes the half of each code that the rule reads, of `width` codes from the index `first` on, over the first cells.
-fn write_halves(window: &[u32], direction: Direction, states: u32, first: usize, width: usize, cells: &mut [u32])
+fn write_halves(
+    window: &[u32],
+    direction: Direction,
+    states: u32,
+    first: usize,
+    width: usize,
+    cells: &mut [u32],
+)
     requires { ⌜ 1 ≤ states ⌝ ∗ ⌜ first + width ≤ length (now window) ⌝ ∗ ⌜ width ≤ length (now cells) ⌝ }
     ensures { λ _. ⌜ take width (now (cells .exit)) ≡ tabulate (λ j. half direction states (getD (now (window .entry)) (first + j) 0)) width ⌝ }
 {
@@ -176,7 +185,12 @@ fn rejoin(direction: Direction, states: u32, value: u32, own: u32) -> u32
 }
 
 // What the lift of a rule that can be lifted answers.
-fn step<R: Rule>(rule: &R, shape: Shape, direction: Direction, window: &[u32]) -> Result<u32, RuleFault>
+fn step<R: Rule>(
+    rule: &R,
+    shape: Shape,
+    direction: Direction,
+    window: &[u32],
+) -> Result<u32, RuleFault>
     requires { ⌜ shape ≡ shape-of (R·Rule .meaning (now rule)) ⌝ ∗ ⌜ liftable shape ≡ true ⌝ }
     ensures { λ r. ⌜ r ≡ answer (shape .states * shape .states) (toward direction (lifted (R·Rule .meaning (now (rule .entry))))) (now (window .entry)) ⌝ }
 {

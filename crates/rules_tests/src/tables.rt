@@ -97,6 +97,7 @@ fn every_refusal_has_its_number() -> Result<(), Fail> {
         (RuleFault::WrongLength, 8, 0),
         (RuleFault::OutOfRange, 9, 0),
         (RuleFault::BadEntry(7), 10, 7),
+        (RuleFault::Unliftable, 11, 0),
     ];
     for (fault, number, place) in faults {
         check_eq(fault.number(), number)?;

@@ -22,9 +22,12 @@ code-with-requires c κs =
     let m = listed (t .symbols) (t .heads) (t .transitions .list) in
     let p = proper-listed (t .symbols) (t .heads) (t .transitions .list) (t .fits) (t .proper) in
     let head : c .or-head .result ≡ next-head m (c .args .left) (c .args .own) (c .args .right) =
-      c .or-head .ensures ∙ ap₂ orOther (c .head-leaving .ensures) (c .or .ensures ∙ ap₂ orOther (c .head-leaving-stays .ensures) (c .head-leaving-from-right .ensures)) in
+    c .or-head .ensures ∙ ap₂ orOther (c .head-leaving .ensures) (c .or .ensures ∙ ap₂ orOther (c .head-leaving-stays .ensures) (c .head-leaving-from-right .ensures)) in
     let rest = fitting-orOther (t .heads) (arriving m Stay (c .args .own)) (arriving m Left (c .args .right)) (fitting-arriving m p (c .args .own) (c .pre .1 .0) Stay) (fitting-arriving m p (c .args .right) (c .pre .1 .1) Left) in
-    let all = fitting-orOther (t .heads) (arriving m Right (c .args .left)) (orOther (arriving m Stay (c .args .own)) (arriving m Left (c .args .right))) (fitting-arriving m p (c .args .left) (c .pre .0) Right) rest in
-    ( s .few-symbols
-    , ( omega (arith, c .symbol-after-symbol .ensures, next-symbol-lt m p (c .args .own) (c .pre .1 .0), s .few-symbols)
-    , subst (Fitting 64) (sym head) (small (t .heads) (next-head m (c .args .left) (c .args .own) (c .args .right)) (s .few-heads) all)))
+    let all = fitting-orOther (t .heads) (arriving m Right (c .args .left)) (orOther (arriving m Stay (c .args .own)) (arriving m Left (c .args .right))) (fitting-arriving m p (c .args .left) (c .pre .0) Right) rest in (
+      s .few-symbols,
+      (
+        omega (arith, c .symbol-after-symbol .ensures, next-symbol-lt m p (c .args .own) (c .pre .1 .0), s .few-symbols),
+        subst (Fitting 64) (sym head) (small (t .heads) (next-head m (c .args .left) (c .args .own) (c .args .right)) (s .few-heads) all),
+      ),
+    )

@@ -17,8 +17,8 @@ pub loop-i-again : need.loop-i-again
 loop-i-again c =
     let i = c .loop-i .i in
     let head : c .if-i-position .head ≡ whenTrue (eqb i (c .args .position)) (c .args .state) = elim (c .if-i-position .came) [
-      then-i-position w ↦ w .head-is ∙ ap (λ b. whenTrue b (c .args .state)) (sym (eq-eqb i (c .args .position) (w .if-i-position .taken)))
-    | else-i-position w ↦ w .head-is ∙ ap (λ b. whenTrue b (c .args .state)) (sym (ne-eqb i (c .args .position) (w .if-i-position .left)))
+      | then-i-position w ↦ w .head-is ∙ ap (λ b. whenTrue b (c .args .state)) (sym (eq-eqb i (c .args .position) (w .if-i-position .taken)))
+      | else-i-position w ↦ w .head-is ∙ ap (λ b. whenTrue b (c .args .state)) (sym (ne-eqb i (c .args .position) (w .if-i-position .left)))
     ] in
     one-more (drawn-cell (c .args .symbols) (c .args .tape .now) (c .args .position) (c .args .state)) (c .loop-i .cells) i (c .code-with .result) (omega (arith, c .loop-i .kept .cells, c .pre .sizes .1 .1)) (c .loop-i .inv)
     (c .code-with .ensures ∙ ap (code-of (c .args .symbols) (getD (c .args .tape .now) i 0)) head)

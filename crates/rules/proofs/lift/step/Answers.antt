@@ -28,7 +28,7 @@ apply-value-requires g c κs =
     let k = lift-step a (g .R·Rule·met .lawful (c .args .rule .now)) (c .args .shape) (c .pre .0) (c .framed-frame .result) (c .framed-frame .ensures) (c .args .direction) (c .args .window .now) (c .in-Continue-check-window .ensures tt .answer) in
     let z : c .framed-frame .result .width - 0 ≡ c .framed-frame .result .width = omega arith in
     let part : take (c .framed-frame .result .width - 0) (c .write-halves .last .cells) ≡ framed-halves (c .args .shape) (c .framed-frame .result) (c .args .direction) (c .args .window .now) =
-      ap (λ n. take n (c .write-halves .last .cells)) z ∙ c .write-halves .ensures in
+    ap (λ n. take n (c .write-halves .last .cells)) z ∙ c .write-halves .ensures in
     subst (Reads (a .states) (Some (a .forward))) (sym part) (k .reads)
 
 pub rejoin-requires : need.rejoin-requires
@@ -37,7 +37,7 @@ rejoin-requires g c κs =
     let k = lift-step a (g .R·Rule·met .lawful (c .args .rule .now)) (c .args .shape) (c .pre .0) (c .framed-frame .result) (c .framed-frame .ensures) (c .args .direction) (c .args .window .now) (c .in-Continue-check-window .ensures tt .answer) in
     let z : c .framed-frame .result .width - 0 ≡ c .framed-frame .result .width = omega arith in
     let part : take (c .framed-frame .result .width - 0) (c .write-halves .last .cells) ≡ framed-halves (c .args .shape) (c .framed-frame .result) (c .args .direction) (c .args .window .now) =
-      ap (λ n. take n (c .write-halves .last .cells)) z ∙ c .write-halves .ensures in
+    ap (λ n. take n (c .write-halves .last .cells)) z ∙ c .write-halves .ensures in
     let value : c .apply-value .result ≡ a .forward .value (framed-halves (c .args .shape) (c .framed-frame .result) (c .args .direction) (c .args .window .now)) = c .apply-value .ensures ∙ ap (a .forward .value) part in
     (liftable-true (c .args .shape) (c .pre .1) .few, (omega (arith, value, k .value-lt), k .own-lt))
 
@@ -47,6 +47,6 @@ returns g c =
     let k = lift-step a (g .R·Rule·met .lawful (c .args .rule .now)) (c .args .shape) (c .pre .0) (c .framed-frame .result) (c .framed-frame .ensures) (c .args .direction) (c .args .window .now) (c .in-Continue-check-window .ensures tt .answer) in
     let z : c .framed-frame .result .width - 0 ≡ c .framed-frame .result .width = omega arith in
     let part : take (c .framed-frame .result .width - 0) (c .write-halves .last .cells) ≡ framed-halves (c .args .shape) (c .framed-frame .result) (c .args .direction) (c .args .window .now) =
-      ap (λ n. take n (c .write-halves .last .cells)) z ∙ c .write-halves .ensures in
+    ap (λ n. take n (c .write-halves .last .cells)) z ∙ c .write-halves .ensures in
     let value : c .apply-value .result ≡ a .forward .value (framed-halves (c .args .shape) (c .framed-frame .result) (c .args .direction) (c .args .window .now)) = c .apply-value .ensures ∙ ap (a .forward .value) part in
     ap Ok (c .rejoin .ensures ∙ ap (λ v. rejoined (c .args .direction) (c .args .shape .states) v (getD (c .args .window .now) (c .framed-frame .result .own) 0)) value) ∙ sym (k .lift-answer)

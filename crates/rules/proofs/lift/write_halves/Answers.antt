@@ -13,8 +13,8 @@ pub loop-i-again : need.loop-i-again
 loop-i-again c =
     let code = getD (c .args .window .now) (c .args .first + c .loop-i .i) 0 in
     let read : c .match-direction .cells ≡ half (c .args .direction) (c .args .states) code = elim (c .match-direction .came) [
-      in-Forward w ↦ w .cells-is ∙ ap (λ d. half d (c .args .states) code) (sym (w .in-Forward .is))
-    | in-Backward w ↦ w .cells-is ∙ ap (λ d. half d (c .args .states) code) (sym (w .in-Backward .is))
+      | in-Forward w ↦ w .cells-is ∙ ap (λ d. half d (c .args .states) code) (sym (w .in-Forward .is))
+      | in-Backward w ↦ w .cells-is ∙ ap (λ d. half d (c .args .states) code) (sym (w .in-Backward .is))
     ] in
     one-more (λ k. half (c .args .direction) (c .args .states) (getD (c .args .window .now) (c .args .first + k) 0)) (c .loop-i .cells) (c .loop-i .i) (c .match-direction .cells) (omega (arith, c .loop-i .kept .cells)) (c .loop-i .inv) read
 

@@ -13,12 +13,17 @@ use Rattle.machines.proofs.turing.Turing.enter.Needs as need
 
 pub ghost-self : need.ghost-self
 ghost-self c =
-    let t = c .args .self .now in
-    ( t .fits
-    , (ap length (c .put .ensures) ∙ length-set _ _ _ ∙ t .full
-    , (ap (all-fit (t .symbols) (t .heads)) (c .put .ensures) ∙
-      all-fit-set (t .symbols) (t .heads) (t .transitions .list) (c .args .index) (c .in-Some .transition) (transition-of-fits (t .symbols) (t .heads) (c .args .write) (c .args .step) (c .args .next) (c .in-Some .transition) (c .in-Some .ensures tt)) (t .proper)
-    , tt)))
+    let t = c .args .self .now in (
+      t .fits,
+      (
+        ap length (c .put .ensures) ∙ length-set _ _ _ ∙ t .full,
+        (
+          ap (all-fit (t .symbols) (t .heads)) (c .put .ensures) ∙
+              all-fit-set (t .symbols) (t .heads) (t .transitions .list) (c .args .index) (c .in-Some .transition) (transition-of-fits (t .symbols) (t .heads) (c .args .write) (c .args .step) (c .args .next) (c .in-Some .transition) (c .in-Some .ensures tt)) (t .proper),
+          tt,
+        ),
+      ),
+    )
 
 pub returns-then-index-self : need.returns-then-index-self
 returns-then-index-self c =

@@ -1,0 +1,3 @@
+// Examples for the crate `machines`, as tests.
+#[cfg(test)]
+mod machines;
