@@ -3,3 +3,4 @@ pub mod Tables
 pub mod Elementary
 pub mod Maps
 pub mod Lifts
+pub mod Choices

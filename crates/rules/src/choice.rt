@@ -1,6 +1,6 @@
 // A rule that acts as one of two.
 ghost use mathlib.Core.Path.{_≡_};
-ghost use Rattle.rules.specs.Choices.{chosen};
+ghost use Rattle.rules.specs.Choices.{chosen, Choice-laws};
 ghost use Rattle.rules.specs.Kinds.{choice-kind};
 use crate::Rule;
 use crate::RuleFault;
@@ -17,9 +17,10 @@ pub struct Choice<A, B> {
 }
 
 impl<A: Rule, B: Rule> Choice<A, B> {
+    // A choice that goes by the number.
     pub fn new(first: A, second: B, number: u32) -> Choice<A, B>
         ensures answer { λ r. ⌜ (r .first ≡ first) × (r .second ≡ second) × (r .number ≡ number) ⌝ }
-        ensures law { λ r. ⌜ chosen (r .number) (A·Rule .meaning (r .first)) (B·Rule .meaning (r .second)) ≡ chosen number (A·Rule .meaning first) (B·Rule .meaning second) ⌝ }
+        ensures law { λ _. ⌜ Choice-laws number (A·Rule .meaning first) (B·Rule .meaning second) ⌝ }
     {
         Choice {
             first,
