@@ -1,4 +1,4 @@
--- Lemmas on automata: steps forward and back add up.
+-- Lemmas on automata: steps forward and back add up, and rings stay rings of the same length.
 use Prim.Native.Nat.{ℕ, zero, suc, _+_, _-_, _<_, _≤_}
 use mathlib.Core.Path.{_≡_, refl, sym, ap, subst, _∙_}
 use mathlib.Core.Logic.{_⊎_, inl, inr, ⊎-elim}
@@ -14,8 +14,8 @@ use Rattle.std.specs.declared.option.Option.the-variants.{Some, None}
 use Rattle.rings.specs.Line.{power}
 use Rattle.rings.specs.Ring.{Ring}
 use Rattle.rings.specs.Local.{Local, ring-map, Closed, Undoes}
-use Rattle.rings.specs.Automaton.{Automaton, Inverse, Sound, after, Goes, Steps-add}
-use Rattle.rings.proofs.Local.{ring-power, power-undoes}
+use Rattle.rings.specs.Automaton.{Automaton, Inverse, Sound, undone, after, Goes, Steps-add}
+use Rattle.rings.proofs.Local.{length-power, ring-power, power-undoes}
 
 pub power-add : {X : Type 0} (f : X → X) (m n : ℕ) (x : X) → power f m (power f n x) ≡ power f (m + n) x
 unfolding power
@@ -73,3 +73,29 @@ after-add a s j k c r = by (a .inverse) (s .inverse) j k where
   by None t (pos m) (negsuc n) g h = absurd h
   by None t (negsuc m) k g h = absurd g
   by (Some f) t j k g h = reversible-add (a .states) (a .forward) f (s .forward .closed) t j k c r
+
+-- steps that add up to none lead back
+pub after-undoes : (a : Automaton) → Sound a → (j k : ℤ) → j +ℤ k ≡ pos 0 → (c : List ℕ) → Ring (a .states) c → Goes a j → Goes a k → after a j (after a k c) ≡ c
+unfolding power
+after-undoes a s j k e c r g h = after-add a s j k c r g h ∙ ap (λ z. after a z c) e
+
+-- rings stay rings, of the same length
+
+pub length-after : (a : Automaton) (k : ℤ) (c : List ℕ) → length (after a k c) ≡ length c
+length-after a (pos n) c = length-power (a .forward) n c
+length-after a (negsuc n) c = by (a .inverse) where
+  by : (o : Option Local) → length (undone o (suc n) c) ≡ length c
+  by None = refl
+  by (Some g) = length-power g (suc n) c
+
+pub ring-after : (a : Automaton) → Sound a → (k : ℤ) (c : List ℕ) → Ring (a .states) c → Ring (a .states) (after a k c)
+ring-after a s (pos n) c r = ring-power (a .states) (a .forward) (s .forward .closed) n c r
+ring-after a s (negsuc n) c r = by (a .inverse) (s .inverse) where
+  by : (o : Option Local) → Cases o (Unit {0}) (Inverse (a .states) (a .forward)) → Ring (a .states) (undone o (suc n) c)
+  by None i = r
+  by (Some g) i = ring-power (a .states) g (i .proper .closed) (suc n) c r
+
+-- an automaton that can go back can go any number of steps
+pub goes-any : (a : Automaton) (n : ℕ) → Goes a (negsuc n) → (k : ℤ) → Goes a k
+goes-any a n g (pos m) = tt
+goes-any a n g (negsuc m) = g

@@ -3,3 +3,5 @@ pub mod Line
 pub mod Ring
 pub mod Local
 pub mod Automaton
+pub mod Packing
+pub mod Transformations

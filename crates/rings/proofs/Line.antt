@@ -6,7 +6,7 @@ use lib.IntN.{ℤ, pos, negsuc, _+ℤ_, _*ℤ_, negℤ, +ℤ-assoc}
 use lib.ListN.{length, getD, take, drop}
 use native.Mathlib.Omega.{arith}
 use Rattle.std.proofs.shelf.Counted.{length-map-counting, getD-map-counting, fill-by-all}
-use Rattle.std.proofs.shelf.Lists.{getD-take, getD-drop, length-take, length-drop}
+use Rattle.std.proofs.shelf.Lists.{getD-take, getD-drop, getD-reverse, length-take, length-drop, length-reverse}
 use Rattle.std.proofs.shelf.Signed.{ints}
 use Rattle.rings.specs.Integers.{floor-div, floor-mod}
 use Rattle.rings.specs.Line.{Line, tabulate, window, rotate-line, reflect-line, Periodic, Below, power}
@@ -29,6 +29,12 @@ is-tabulate f n xs e h = fill-by-all f xs n 0 e h
 
 pub tabulate-same : (f g : ℕ → ℕ) (n : ℕ) → ((i : ℕ) → i < n → f i ≡ g i) → tabulate f n ≡ tabulate g n
 tabulate-same f g n h = is-tabulate g n (tabulate f n) (length-tabulate f n) (λ i l. getD-tabulate f n i l ∙ h i l)
+
+pub reverse-tabulate : (f : ℕ → ℕ) (n : ℕ) → reverse (tabulate f n) ≡ tabulate (λ i. f (n - 1 - i)) n
+reverse-tabulate f n =
+    is-tabulate (λ i. f (n - 1 - i)) n (reverse (tabulate f n)) (length-reverse (tabulate f n) ∙ length-tabulate f n)
+    (λ i l. let s : i < length (tabulate f n) = rw (length-tabulate f n) l in
+    getD-reverse (tabulate f n) i 0 s ∙ ap (λ k. getD (tabulate f n) (k - 1 - i) 0) (length-tabulate f n) ∙ getD-tabulate f n (n - 1 - i) (omega arith))
 
 -- windows
 

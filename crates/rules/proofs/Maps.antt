@@ -66,15 +66,18 @@ placed-inside n (Some l) start w h p = omega (arith, p .0, floor-mod-lt (l .lo) 
 
 -- the windows of an unrolled ring
 
+-- a part of the first n cells
+pub part-of-front : (n w i : ℕ) (cells : List ℕ) → i + w ≤ n → part cells i w ≡ part (take n cells) i w
+part-of-front n w i cells fits =
+    let split : n ≡ i + (n - i) = omega arith in
+    sym (ap (λ k. take w (drop i (take k cells))) split ∙ ap (take w) (drop-take i (n - i) cells) ∙ take-take w (n - i) (drop i cells) (omega arith))
+
 part-of-unrolled : (c cells : List ℕ) (lo : ℤ) (i w m : ℕ) → 1 ≤ length c → i + w ≤ m → take m cells ≡ window (at c) (pos (floor-mod lo (length c))) m
     → part cells i w ≡ window (at c) (pos i +ℤ lo) w
 part-of-unrolled c cells lo i w m some fits u =
     let n = length c in
     let start = pos (floor-mod lo n) in
-    let split : m ≡ i + (m - i) = omega arith in
-    let front : take w (drop i cells) ≡ take w (drop i (take m cells)) =
-    sym (ap (λ k. take w (drop i (take k cells))) split ∙ ap (take w) (drop-take i (m - i) cells) ∙ take-take w (m - i) (drop i cells) (omega arith)) in
-    front ∙ ap (λ l. take w (drop i l)) u ∙
+    part-of-front m w i cells fits ∙ ap (λ l. take w (drop i l)) u ∙
     part-of-window (at c) start m i w fits ∙
     window-same (at c) (at c) (start +ℤ pos i) (pos i +ℤ lo) w (λ j l.
     let e : pos i +ℤ lo +ℤ pos j ≡ floor-div lo n *ℤ pos n +ℤ (start +ℤ pos i +ℤ pos j) = omega (arith, ints, floor-div-mod lo n some) in

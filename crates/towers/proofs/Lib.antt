@@ -1,0 +1,9 @@
+pub mod Towers
+pub mod Steps
+pub mod Arithmetic
+pub mod Acting
+pub mod Asking
+pub mod Floors
+pub mod Encodings
+pub mod Places
+pub mod Calls

@@ -1,0 +1,11 @@
+use mathlib.Core.Path.{_≡_}
+use Prim.Native.Nat.{_+_, _^_}
+use Rattle.rings.specs.Automaton.{toward}
+use Rattle.rings.specs.Packing.{number, unblocks}
+use Rattle.rules.specs.Steps.{value-of, part}
+use Rattle.towers.proofs.apply.packed.Given as given
+
+abbrev pub Inv-loop-j : given.InvT-loop-j
+Inv-loop-j g l =
+    (l .code ≡ number (l .states) (λ i. value-of (toward (l .direction) (g .T·Tower .tower (l .tower) .top)) (part (unblocks (l .states) (l .m) (l .window)) (i + l .skip) (l .width))) (l .j))
+    × (l .weight ≡ l .states ^ l .j)
