@@ -27,7 +27,7 @@ use Rattle.towers.proofs.Towers.{stands-iterate, stands-shift, stands-mirror, 
 -- the numbers of the tower that an action makes
 
 -- a map of local functions that maps their ends
-ends-mapped : (h : Local → Local) (f : ℤ × ℤ → ℤ × ℤ) → ((l : Local) → (h l .lo, h l .hi) ≡ f (l .lo, l .hi)) → (o : Option Local) → ends (mapped h o) ≡ mapped f (ends o)
+pub ends-mapped : (h : Local → Local) (f : ℤ × ℤ → ℤ × ℤ) → ((l : Local) → (h l .lo, h l .hi) ≡ f (l .lo, l .hi)) → (o : Option Local) → ends (mapped h o) ≡ mapped f (ends o)
 ends-mapped h f e None = refl
 ends-mapped h f e (Some l) = ap Some (e l)
 

@@ -19,18 +19,19 @@ use Rattle.rings.specs.Ring.{Codes}
 use Rattle.rings.specs.Local.{Local}
 use Rattle.rings.specs.Automaton.{Automaton, Lawful, toward}
 use Rattle.rings.specs.Packing.{digit, number, unblocks}
-use Rattle.rings.specs.Transformations.{map-list-windows, iterate-value, pack-value, iterate-local, mirror-local, pack-local}
+use Rattle.rings.specs.Transformations.{map-list-windows, iterate-value, pack-value, iterate-local, mirror-local}
 use Rattle.rings.proofs.Line.{length-tabulate, getD-tabulate, is-tabulate}
 use Rattle.rings.proofs.Local.{power-out}
 use Rattle.rings.proofs.Packing.{number-lt, length-unblocks, getD-unblocks, ring-unblocks}
-use Rattle.rings.proofs.Transformations.{width-iterate, width-mirror, pack-covers}
+use Rattle.rings.proofs.Transformations.{width-iterate, width-mirror}
 use Rattle.rules.specs.declared.fault.RuleFault.{RuleFault}
 use Rattle.rules.specs.Answers.{answer, checked}
-use Rattle.rules.specs.Steps.{value-of, Reads, Placed, part}
-use Rattle.rules.proofs.Windows.{Readable, readable, checked-refused}
+use Rattle.rules.specs.Steps.{value-of, Reads, part}
+use Rattle.rules.proofs.Windows.{Readable, readable, checked-readable, checked-refused}
 use Rattle.rules.proofs.Tables.{pow-more}
 use Rattle.rules.proofs.Maps.{Usable, usable, part-of-front, answer-reads}
-use Rattle.towers.specs.Asking.{Has-width, Packing}
+use Rattle.towers.specs.declared.apply.Blocks.{Blocks}
+use Rattle.towers.specs.Asking.{Has-width, Packing, blocks-answer}
 use Rattle.towers.specs.Numbers.{Standing}
 use Rattle.towers.specs.Towers.{Tower}
 use Rattle.towers.proofs.Floors.{top-lawful}
@@ -166,20 +167,10 @@ reversed-front w ws row turned len front e = let n : w - 0 ≡ length ws = omega
 
 -- blocks
 
--- the code of a block, by its digits
-pub value-packed : (q : ℕ) (o : Option Local) (m skip w : ℕ) (ws : List ℕ) → Placed m o skip w → number q (λ j. value-of o (part (unblocks q m ws) (j + skip) w)) m ≡ value-of (mapped (pack-local q m) o) ws
-unfolding pack-value
-value-packed q None m skip w ws p = absurd p
-value-packed q (Some l) m skip w ws p = ap₂ (λ (s n : ℕ). pack-value q m (l .value) s n ws) (p .0) (p .1)
-
-placed-width : (n : ℕ) (o : Option Local) (start w : ℕ) → Placed n o start w → Has-width o w
-placed-width n None start w p = absurd p
-placed-width n (Some l) start w p = p .1
-
--- the packed window holds the windows of all cells of a block
-pack-holds : (p q : ℕ) (o : Option Local) (m skip w k : ℕ) → Usable p o → 1 ≤ m → Placed m o skip w → Has-width (mapped (pack-local q m) o) k → m - 1 + skip + w ≤ k * m
-pack-holds p q None m skip w k u some placed h = absurd placed
-pack-holds p q (Some l) m skip w k u some placed h = omega (arith, placed .0, placed .1, ap (λ n. n * m) h, pack-covers q m l some (u .0 .ordered))
+-- a product that is not 0 has no factor 0
+some-factor : (k m : ℕ) → 1 ≤ k * m → 1 ≤ k
+some-factor zero m h = absurd (omega arith)
+some-factor (suc k) m h = omega arith
 
 -- the digits of the codes of a window, one code after the other
 pub unblocks-more : (q m i : ℕ) (ws : List ℕ) → 1 ≤ m → i < length ws → take (i * m + m) (unblocks q m ws) ≡ take (i * m) (unblocks q m ws) ++ tabulate (digit q (getD ws i 0)) m
@@ -210,38 +201,53 @@ next-digit q m f j code weight value some few below h e s v =
     record { product = omega arith; sum = omega arith; power = omega arith; next-code = next; next-weight = more }
 
 -- the windows of the cells of a block, in a packed window that was checked
-module _ {a : Automaton} {d : Direction} {states m total skip w k : ℕ} (lawful : Lawful a) (p : Packing a d states m total skip w k) (ws : List ℕ) (e : Ok tt ≡ checked {X = Unit {0}} total k ws tt) where
-  size : length ws * m ≡ k * m
-  size = ap (λ n. n * m) (readable total k ws e .len)
+module _ {a : Automaton} {d : Direction} {b : Blocks} (lawful : Lawful a) (p : Packing a d b) (ws : List ℕ) (e : Ok tt ≡ checked {X = Unit {0}} (b .total) (b .cells) ws tt) where
+  abbrev window-at : ℕ → List ℕ
+  window-at j = part (unblocks (b .states) (b .block) ws) (j + b .skip) (b .width)
 
-  some-states : 1 ≤ states
+  size : length ws * b .block ≡ b .cells * b .block
+  size = ap (λ n. n * b .block) (readable (b .total) (b .cells) ws e .len)
+
+  some-states : 1 ≤ b .states
   some-states = omega (arith, p .same, lawful .sound .some)
 
   -- the packed window has digits, and there is room for them
-  pub unpackable : (1 ≤ states) × (length ws * m ≤ 1024)
-  unpackable = let most : k * m ≤ 64 * 16 = mul-le-mul (p .fits) (p .short) in (some-states, omega (arith, size))
+  pub unpackable : (1 ≤ b .states) × (length ws * b .block ≤ 1024)
+  unpackable = let most : b .cells * b .block ≤ 64 * 16 = mul-le-mul (p .fits) (p .short) in (some-states, omega (arith, size))
 
   -- the window of the cell j of the block lies inside, and can be read
-  pub window-inside : (j : ℕ) → j < m → j + skip + w ≤ length ws * m
-  window-inside j h = omega (arith, size, pack-holds (a .states) states (toward d a) m skip w k (usable d a lawful) (p .some) (p .placed) (p .covered))
+  pub window-inside : (j : ℕ) → j < b .block → j + b .skip + b .width ≤ length ws * b .block
+  window-inside j h = omega (arith, size, p .inside)
 
-  pub window-reads : (j : ℕ) → j < m → Reads (a .states) (toward d a) (part (unblocks states m ws) (j + skip) w)
+  pub window-reads : (j : ℕ) → j < b .block → Reads (a .states) (toward d a) (window-at j)
   window-reads j h =
-      let fits : j + skip + w ≤ length (unblocks states m ws) = omega (arith, window-inside j h, length-unblocks states m ws) in
-      let some : 1 ≤ length ws = omega (arith, readable total k ws e .len, some-width (mapped (pack-local states m) (toward d a)) k (p .covered)) in
-      let codes : Codes (a .states) (unblocks states m ws) = subst (λ q. Codes q (unblocks states m ws)) (p .same) (ring-unblocks states m ws (p .some) some-states some .codes) in
-      reads (a .states) (toward d a) w (part (unblocks states m ws) (j + skip) w) (placed-width m (toward d a) skip w (p .placed)) (part-readable (a .states) w (j + skip) (unblocks states m ws) fits codes)
+      let cells = unblocks (b .states) (b .block) ws in
+      let fits : j + b .skip + b .width ≤ length cells = omega (arith, window-inside j h, length-unblocks (b .states) (b .block) ws) in
+      let some : 1 ≤ length ws = some-factor (length ws) (b .block) (omega (arith, window-inside j h, some-width (toward d a) (b .width) (p .width))) in
+      let codes : Codes (a .states) cells = subst (λ q. Codes q cells) (p .same) (ring-unblocks (b .states) (b .block) ws (p .some) some-states some .codes) in
+      reads (a .states) (toward d a) (b .width) (window-at j) (p .width) (part-readable (a .states) (b .width) (j + b .skip) cells fits codes)
 
   -- it is found in any cells that begin with the unpacked ones
-  pub window-part : (j : ℕ) (cells : List ℕ) → j < m → take (length ws * m) cells ≡ unblocks states m ws → part cells (j + skip) (j + skip + w - (j + skip)) ≡ part (unblocks states m ws) (j + skip) w
+  pub window-part : (j : ℕ) (cells : List ℕ) → j < b .block → take (length ws * b .block) cells ≡ unblocks (b .states) (b .block) ws → part cells (j + b .skip) (j + b .skip + b .width - (j + b .skip)) ≡ window-at j
   window-part j cells h front =
-      let n : j + skip + w - (j + skip) ≡ w = omega arith in
-      ap (part cells (j + skip)) n ∙ part-of-front (length ws * m) w (j + skip) cells (window-inside j h) ∙ ap (λ u. part u (j + skip) w) front
+      let n : j + b .skip + b .width - (j + b .skip) ≡ b .width = omega arith in
+      ap (part cells (j + b .skip)) n ∙ part-of-front (length ws * b .block) (b .width) (j + b .skip) cells (window-inside j h) ∙ ap (λ u. part u (j + b .skip) (b .width)) front
 
   -- the value at the window of the cell j is the digit j
-  pub packed-digit : (j code weight value : ℕ) → j < m → code ≡ number states (λ i. value-of (toward d a) (part (unblocks states m ws) (i + skip) w)) j → weight ≡ states ^ j
-      → value ≡ value-of (toward d a) (part (unblocks states m ws) (j + skip) w)
-      → Next-digit states (λ i. value-of (toward d a) (part (unblocks states m ws) (i + skip) w)) j code weight value
+  packed-digit : (j code weight value : ℕ) → j < b .block → code ≡ number (b .states) (λ i. value-of (toward d a) (window-at i)) j → weight ≡ b .states ^ j → value ≡ value-of (toward d a) (window-at j)
+      → Next-digit (b .states) (λ i. value-of (toward d a) (window-at i)) j code weight value
   packed-digit j code weight value h c s v =
-      next-digit states m (λ i. value-of (toward d a) (part (unblocks states m ws) (i + skip) w)) j code weight value some-states (omega (arith, p .power, p .few))
-      (λ i l. omega (arith, p .same, value-lt (a .states) (toward d a) (part (unblocks states m ws) (i + skip) w) (usable d a lawful) (window-reads i l))) h c s v
+      next-digit (b .states) (b .block) (λ i. value-of (toward d a) (window-at i)) j code weight value some-states (omega (arith, p .power, p .few))
+      (λ i l. omega (arith, p .same, value-lt (a .states) (toward d a) (window-at i) (usable d a lawful) (window-reads i l))) h c s v
+
+  -- so the code and the weight stay small when the top was applied to it
+  pub next-packed : (j code weight value : ℕ) (cells : List ℕ) → j < b .block → code ≡ number (b .states) (λ i. value-of (toward d a) (window-at i)) j → weight ≡ b .states ^ j
+      → value ≡ value-of (toward d a) (part cells (j + b .skip) (j + b .skip + b .width - (j + b .skip))) → take (length ws * b .block) cells ≡ unblocks (b .states) (b .block) ws
+      → Next-digit (b .states) (λ i. value-of (toward d a) (window-at i)) j code weight value
+  next-packed j code weight value cells h c s v front = packed-digit j code weight value h c s (v ∙ ap (value-of (toward d a)) (window-part j cells h front))
+
+-- the answer, when all digits are there
+pub blocks-value : (o : Option Local) (b : Blocks) (ws : List ℕ) (code : ℕ) → Ok tt ≡ checked {X = Unit {0}} (b .total) (b .cells) ws tt
+    → code ≡ number (b .states) (λ i. value-of o (part (unblocks (b .states) (b .block) ws) (i + b .skip) (b .width))) (b .block) → Ok code ≡ blocks-answer o b ws
+unfolding pack-value
+blocks-value o b ws code e v = ap Ok v ∙ sym (checked-readable (b .total) (b .cells) ws (readable (b .total) (b .cells) ws e) _)

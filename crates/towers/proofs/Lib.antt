@@ -3,7 +3,9 @@ pub mod Steps
 pub mod Arithmetic
 pub mod Acting
 pub mod Asking
+pub mod Answering
 pub mod Floors
 pub mod Encodings
 pub mod Places
 pub mod Calls
+pub mod Laws

@@ -8,3 +8,4 @@ pub mod Kinds
 pub mod Places
 pub mod Floors
 pub mod Encodings
+pub mod Laws

@@ -7,10 +7,10 @@ ghost use Rattle.rings.specs.Line.{tabulate};
 ghost use Rattle.rings.specs.Ring.{Codes};
 ghost use Rattle.rings.specs.Automaton.{toward};
 ghost use Rattle.rings.specs.Packing.{digit, unblocks};
-ghost use Rattle.rings.specs.Transformations.{map-list-windows, iterate-local, mirror-local, pack-local};
+ghost use Rattle.rings.specs.Transformations.{map-list-windows, iterate-local, mirror-local};
 ghost use Rattle.rules.specs.Answers.{answer};
 ghost use Rattle.rules.specs.Steps.{value-of, Reads};
-ghost use Rattle.towers.specs.Asking.{Has-width, Packing};
+ghost use Rattle.towers.specs.Asking.{Has-width, Packing, blocks-answer};
 use crate::Tower;
 use rings::Direction;
 use rules::RuleFault;
@@ -131,31 +131,38 @@ fn unpack(window: &[u32], states: u32, m: usize, cells: &mut [u32])
     }
 }
 
-// What the top answers on blocks of m cells: at a window of `cells` packed codes, all below `total`.
+// What packing works with: the states of a cell, the cells of a block, the codes of a block, the cell of a block at which the first
+// window begins, the cells of a window, and the packed cells that the windows of a whole block lie on.
+#[derive(Clone, Copy)]
+pub(crate) struct Blocks {
+    pub states: u32,
+    pub block: u32,
+    pub total: u32,
+    pub skip: usize,
+    pub width: usize,
+    pub cells: usize,
+}
+
+// What the top answers on blocks.
 pub(crate) fn packed<T: Tower>(
     tower: &T,
     direction: Direction,
-    states: u32,
-    m: u32,
-    total: u32,
-    skip: usize,
-    width: usize,
-    cells: usize,
+    blocks: Blocks,
     window: &[u32],
 ) -> Result<u32, RuleFault>
-    requires { ⌜ Packing (T·Tower .tower (now tower) .top) direction states m total skip width cells ⌝ }
-    ensures { λ r. ⌜ r ≡ answer total (mapped (pack-local states m) (toward direction (T·Tower .tower (now (tower .entry)) .top))) (now (window .entry)) ⌝ }
+    requires { ⌜ Packing (T·Tower .tower (now tower) .top) direction blocks ⌝ }
+    ensures { λ r. ⌜ r ≡ blocks-answer (toward direction (T·Tower .tower (now (tower .entry)) .top)) blocks (now (window .entry)) ⌝ }
 {
-    check_window(window, total, cells)?;
+    check_window(window, blocks.total, blocks.cells)?;
     let mut unpacked = [0; MAX_DIGITS];
-    unpack(window, states, m as usize, &mut unpacked);
+    unpack(window, blocks.states, blocks.block as usize, &mut unpacked);
     let mut code = 0;
     let mut weight = 1;
-    for j in 0..m {
-        let start = j as usize + skip;
-        let value = apply(tower, direction, &unpacked[start..start + width]);
+    for j in 0..blocks.block {
+        let start = j as usize + blocks.skip;
+        let value = apply(tower, direction, &unpacked[start..start + blocks.width]);
         code += value * weight;
-        weight *= states;
+        weight *= blocks.states;
     }
     Ok(code)
 }

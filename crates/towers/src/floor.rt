@@ -8,16 +8,24 @@ ghost use Rattle.towers.specs.Numbers.{numbers-of};
 ghost use Rattle.towers.specs.Actions.{in-range, fits, floor-or};
 ghost use Rattle.towers.specs.Acting.{Workable};
 ghost use Rattle.towers.specs.Floors.{packed-place, mirrored-place, moved-place, floor-fault};
+ghost use Rattle.towers.specs.Kinds.{floor-kind};
+ghost use Rattle.towers.specs.Laws.{Floor-law};
 ghost use Rattle.towers.specs.Places.{place-answer};
 use crate::Action;
 use crate::Numbers;
 use crate::Place;
 use crate::Tower;
 use crate::TowerFault;
+use crate::answer::floor_answer;
 use crate::numbers::act;
 use crate::numbers::is_in_range;
 use crate::numbers::reduced_block;
+use rings::Direction;
+use rules::Rule;
 use rules::RuleFault;
+use rules::Shape;
+
+const FLOOR_KIND: u16 = 0x0030;
 
 // A floor over a tower. Where the action is out of range or does not fit, it acts as the tower below.
 #[derive(Drop)]
@@ -26,22 +34,92 @@ pub struct Floor<T> {
     action: Action,
 }
 
+// Why a floor was not built, and the tower.
+#[derive(Drop)]
+pub struct Unbuilt<T> {
+    pub fault: TowerFault,
+    pub below: T,
+}
+
 impl<T: Tower> Floor<T> {
     // The floor with this number over a tower; a refusal brings the tower back.
-    pub fn build(below: T, action: Action, floor: usize) -> Result<Floor<T>, (TowerFault, T)>
-        ensures answer { λ r. ⌜ Cases r (λ f. (floor-fault action (numbers-of (T·Tower .tower below)) floor ≡ None) × (f .below ≡ below) × (f .action ≡ action)) (λ e. (floor-fault action (numbers-of (T·Tower .tower below)) floor ≡ Some (e .0)) × (e .1 ≡ below)) ⌝ }
+    pub fn build(below: T, action: Action, floor: usize) -> Result<Floor<T>, Unbuilt<T>>
+        ensures answer { λ r. ⌜ Cases r (λ f. (floor-fault action (numbers-of (T·Tower .tower below)) floor ≡ None) × (f .below ≡ below) × (f .action ≡ action)) (λ e. (floor-fault action (numbers-of (T·Tower .tower below)) floor ≡ Some (e .fault)) × (e .below ≡ below)) ⌝ }
+        ensures law { λ _. ⌜ Floor-law action (T·Tower .tower below) ⌝ }
     {
         match find_fault(action, below.numbers(), floor) {
             None => Ok(Floor { below, action }),
-            Some(fault) => Err((fault, below)),
+            Some(fault) => Err(Unbuilt { fault, below }),
         }
     }
 
     // A floor with any action: it never refuses.
     pub fn over(below: T, action: Action) -> Floor<T>
         ensures answer { λ r. ⌜ r .below ≡ below ⌝ ∗ ⌜ r .action ≡ action ⌝ }
+        ensures law { λ _. ⌜ Floor-law action (T·Tower .tower below) ⌝ }
     {
         Floor { below, action }
+    }
+}
+
+pub impl<T: Tower> Tower for Floor<T> as FloorTower {
+    const KIND: u16 = FLOOR_KIND;
+
+    ghost kind = { floor-kind };
+
+    ghost tower = { λ x. floor-or (x .action) (T·Tower .tower (x .below)) };
+
+    fn tower_kind() -> u16 {
+        FLOOR_KIND
+    }
+
+    fn numbers(&self) -> Numbers {
+        floor_numbers(&self.below, self.action)
+    }
+
+    fn top_next(&self, window: &[u32]) -> Result<u32, RuleFault> {
+        floor_answer(&self.below, self.action, Direction::Forward, window)
+    }
+
+    fn top_previous(&self, window: &[u32]) -> Result<u32, RuleFault> {
+        floor_answer(&self.below, self.action, Direction::Backward, window)
+    }
+
+    fn place(&self, n: usize, j: usize) -> Result<Place, TowerFault> {
+        floor_place(&self.below, self.action, n, j)
+    }
+}
+
+pub impl<T: Tower> Rule for Floor<T> as FloorRule {
+    const KIND: u16 = FLOOR_KIND;
+
+    ghost kind = { floor-kind };
+
+    ghost meaning = { λ x. floor-or (x .action) (T·Tower .tower (x .below)) .top };
+
+    fn kind_number() -> u16 {
+        FLOOR_KIND
+    }
+
+    fn shape(&self) -> Shape {
+        let numbers = floor_numbers(&self.below, self.action);
+        Shape {
+            states: numbers.states,
+            lo: numbers.lo,
+            hi: numbers.hi,
+        }
+    }
+
+    fn inverse(&self) -> Option<(i32, i32)> {
+        floor_numbers(&self.below, self.action).inverse
+    }
+
+    fn next(&self, window: &[u32]) -> Result<u32, RuleFault> {
+        floor_answer(&self.below, self.action, Direction::Forward, window)
+    }
+
+    fn previous(&self, window: &[u32]) -> Result<u32, RuleFault> {
+        floor_answer(&self.below, self.action, Direction::Backward, window)
     }
 }
 

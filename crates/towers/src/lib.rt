@@ -8,6 +8,7 @@ ghost use Rattle.towers.specs.Places.{place-answer};
 use rules::RuleFault;
 
 mod action;
+mod answer;
 mod apply;
 mod encoding;
 mod fault;
@@ -25,6 +26,9 @@ pub use fault::TowerFaultError;
 pub use fault::TowerFaultFromRule;
 pub use fault::TowerFaultPartialEq;
 pub use floor::Floor;
+pub use floor::FloorRule;
+pub use floor::FloorTower;
+pub use floor::Unbuilt;
 pub use ground::Ground;
 pub use ground::GroundRule;
 pub use ground::GroundTower;

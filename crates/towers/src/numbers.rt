@@ -159,7 +159,7 @@ fn iterate(x: Numbers, u: u32) -> Numbers
 }
 
 // The ends of an interval moved by s cells.
-fn shift_ends(ends: (i32, i32), s: i32) -> (i32, i32)
+pub(crate) fn shift_ends(ends: (i32, i32), s: i32) -> (i32, i32)
     requires { ⌜ Lawful-ends (ends .0) (ends .1) ⌝ ∗ ⌜ natAbs s ≤ 128 ⌝ }
     ensures { λ r. ⌜ r ≡ shift-ends s ends ⌝ }
 {

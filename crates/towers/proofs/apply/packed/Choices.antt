@@ -7,5 +7,6 @@ use Rattle.towers.proofs.apply.packed.Given as given
 
 abbrev pub Inv-loop-j : given.InvT-loop-j
 Inv-loop-j g l =
-    (l .code ≡ number (l .states) (λ i. value-of (toward (l .direction) (g .T·Tower .tower (l .tower) .top)) (part (unblocks (l .states) (l .m) (l .window)) (i + l .skip) (l .width))) (l .j))
-    × (l .weight ≡ l .states ^ l .j)
+    let b = l .blocks in
+    (l .code ≡ number (b .states) (λ i. value-of (toward (l .direction) (g .T·Tower .tower (l .tower) .top)) (part (unblocks (b .states) (b .block) (l .window)) (i + b .skip) (b .width))) (l .j))
+    × (l .weight ≡ b .states ^ l .j)
