@@ -6,7 +6,7 @@ use mathlib.Core.List.{List}
 use mathlib.Core.Logic.{_⊎_, inl, inr}
 use lib.IntN.{ℤ, pos, _-ℤ_, negℤ, natAbs}
 use mir.Syntax.{w32}
-use mir.Val.{SFits, toZ, ofZ}
+use mir.Val.{toZ, ofZ}
 use native.Mathlib.Omega.{arith}
 use Rattle.std.proofs.shelf.Signed.{ints}
 use Rattle.std.proofs.shelf.Tests.{leb-true, and-parts, cond-true, cond-false}
@@ -31,11 +31,11 @@ use Rattle.towers.specs.declared.numbers.Numbers.{Numbers}
 use Rattle.towers.specs.Towers.{Tower}
 use Rattle.towers.specs.Numbers.{numbers-of, Standing}
 use Rattle.towers.specs.Actions.{act-on, shift-ends, pack-ends, shift-numbers, act-numbers, reduced-block, in-range, intervals-fit, within-limits, reduces, fits, floor-or}
-use Rattle.towers.specs.Acting.{Lawful-ends, Packable, Workable, acted}
+use Rattle.towers.specs.Acting.{Lawful-ends, Packable, acted}
 use Rattle.towers.specs.Asking.{Has-width, Packing, blocks-answer, blocks-of, interval, along}
 use Rattle.towers.proofs.Arithmetic.{negation-is}
 use Rattle.towers.proofs.Acting.{ends-mapped, standing-acted, workable, packable-shifted}
-use Rattle.towers.proofs.Asking.{usable-top, width-iterated, width-mirrored}
+use Rattle.towers.proofs.Asking.{usable-top, width-iterated}
 
 -- whether the action acts
 
