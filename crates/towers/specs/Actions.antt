@@ -27,6 +27,7 @@ act-on Reduce t = reduce-tower t
 
 -- what it makes of the numbers
 
+-- The ends of an interval after u steps at once, moved by s cells, seen in a mirror, and on blocks of m cells.
 abbrev pub iterate-ends : ℕ → ℤ × ℤ → ℤ × ℤ
 iterate-ends u e = (e .0 *ℤ pos u, e .1 *ℤ pos u)
 
@@ -153,7 +154,7 @@ floor-numbers act x = cond (in-range act && fits act x) (act-numbers act x) x
 
 -- the numbers of actions
 
--- The number of an action, and its argument.
+-- The number of an action.
 abbrev pub action-number : Action → ℕ
 action-number Unchanged = 0
 action-number (Pack m) = 1
@@ -162,9 +163,11 @@ action-number (Shift s) = 3
 action-number Mirror = 4
 action-number Reduce = 5
 
+-- The action, where a test holds.
 abbrev pub when : Bool → Action → Option Action
 when b act = cond b (Some act) None
 
+-- The action, where the argument is 0.
 abbrev pub when-zero : ℤ → Action → Option Action
 when-zero a act = when (leZ (pos 0) a && leZ a (pos 0)) act
 

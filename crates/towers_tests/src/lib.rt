@@ -1,0 +1,5 @@
+// Examples for the crate `towers`, as tests.
+#[cfg(test)]
+mod codes;
+#[cfg(test)]
+mod floors;
