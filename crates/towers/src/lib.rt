@@ -17,6 +17,8 @@ mod ground;
 mod numbers;
 
 pub use action::Action;
+pub use action::ActionDebug;
+pub use action::ActionPartialEq;
 pub use encoding::decode;
 pub use encoding::encode;
 pub use fault::TowerFault;
@@ -33,6 +35,8 @@ pub use ground::Ground;
 pub use ground::GroundRule;
 pub use ground::GroundTower;
 pub use numbers::Numbers;
+pub use numbers::NumbersDebug;
+pub use numbers::NumbersPartialEq;
 
 // Where a bottom cell stands: in which top cell, and as which digit of its code in the base of the bottom's states.
 #[derive(Clone, Copy, PartialEq, Eq, Debug)]
