@@ -1,4 +1,4 @@
--- The second_order lift of an automaton: a cell has a code now and the code that it had before, so that every step can be undone.
+-- The second-order lift of an automaton: a cell has a code now and the code that it had before, so that every step can be undone.
 use Rattle.std.specs.Prelude.{◌≡◌, ℕ, ◌+◌, ◌-◌, ◌*◌, ◌/◌, ◌%◌, Bool, true, false, cond, ◌&&◌, ◌||◌, List, map, ℤ, pos, ◌-ℤ◌, is_some, Some, MatchOption, nat_le, slice_index, unsigned_abs}
 use Rattle.std.specs.Int.{int_min, int_max}
 use Rattle.rings.specs.declared.Direction.{Direction}
@@ -74,7 +74,7 @@ lift_value d q l ws = rejoined d q (halves_value d q l ws) (own_code l ws)
 abbrev pub lift_local : Direction → ℕ → Local → Local
 lift_local d q l = record { lo = hull_lo l.lo; hi = hull_hi l.hi; value = lift_value d q l }
 
--- The second_order lift of an automaton: it has an inverse, whether or not the automaton has one.
+-- The second-order lift of an automaton: it has an inverse, whether or not the automaton has one.
 abbrev pub lifted : Automaton → Automaton
 lifted a = record {
   states = a.states * a.states;
@@ -115,7 +115,7 @@ pub record SameInterval (f g : Local) : Type 0 where
   pub lo : g.lo ≡ f.lo
   pub hi : g.hi ≡ f.hi
 
--- What lifting the automaton a gives, where b is the lift: it follows the second_order dynamics at every cell of every ring,
+-- What lifting the automaton a gives, where b is the lift: it follows the second-order dynamics at every cell of every ring,
 -- and it has an inverse, on its own interval, that undoes it and that it undoes on every ring.
 pub record Reversible (a b : Automaton) : Type 0 where
   pub dynamics : (d : Direction) (c : List ℕ) → Ring b.states c → (i : ℤ) → MatchOption (toward d b) ⊥ (λ l. SecondOrder d a.states a.forward c (ring_map l c) i)

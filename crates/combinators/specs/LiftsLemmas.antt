@@ -1,4 +1,4 @@
--- Lemmas on the second_order lift: it is lawful, its two directions undo each other, and what it reads off a window.
+-- Lemmas on the second-order lift: it is lawful, its two directions undo each other, and what it reads off a window.
 use Rattle.std.specs.Prelude.{◌≡◌, ℕ, ◌+◌, ◌-◌, ◌*◌, ◌%◌, ◌^◌, ◌<◌, ◌≤◌, Bool, true, false, cond, List, map, length, ℤ, pos, ◌+ℤ◌, ◌≤ℤ◌, Some, Ok, Err, MatchOption, slice_index, slice_index_or, refl}
 use Rattle.std.proofs.Common.{sym, ap, ap₂, subst, ◌∙◌, ⊎_elim, arith, mod-eq_of_lt, mod-lt, mul-le-mul_left}
 use Rattle.std.proofs.Math.Path.{fun_ext}
@@ -182,8 +182,8 @@ at_map f c some i =
     ap (λ n. slice_index (map f c) (floor_mod i n)) (length-map c f) ∙ get_or-map f c (floor_mod i (length c)) 0 0 (floor_mod_lt i (length c) some)
 
 module _ (d : Direction) (q : ℕ) (l : Local) (some : 1 ≤ q) (proper : Proper q l) (c : List ℕ) (r : Ring (q * q) c) where
-  second_order : (i : ℤ) → SecondOrder d q l c (ring_map (lift_local d q l) c) i
-  second_order i =
+  second-order : (i : ℤ) → SecondOrder d q l c (ring_map (lift_local d q l) c) i
+  second-order i =
       let b : Below (q * q) (at c) = below_at (q * q) c r in
       let f : Line = line_map l (half_line d q (at c)) in
       let f_lt : Below q f = below_line_map q l proper.closed (half_line d q (at c)) (λ j. half_lt d q (at c j) some (b j)) in
@@ -316,8 +316,8 @@ lift-refused a s e fr k d ws f h =
 reversible : (a : Automaton) → Sound a → Reversible a (lifted a)
 reversible a s = record { dynamics = dynamics; inverse = (lift_inverts a s, record { lo = refl; hi = refl }) } where
   dynamics : (d : Direction) (c : List ℕ) → Ring (a.states * a.states) c → (i : ℤ) → MatchOption (toward d (lifted a)) ⊥ (λ l. SecondOrder d a.states a.forward c (ring_map l c) i)
-  dynamics Forward c r i = second_order Forward a.states a.forward s.some s.forward c r i
-  dynamics Backward c r i = second_order Backward a.states a.forward s.some s.forward c r i
+  dynamics Forward c r i = second-order Forward a.states a.forward s.some s.forward c r i
+  dynamics Backward c r i = second-order Backward a.states a.forward s.some s.forward c r i
 
 pub lift-laws : (a : Automaton) → Sound a → LiftLaws a
 lift-laws a s = by (liftable (shape_of a)) refl where

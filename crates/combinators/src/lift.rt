@@ -19,9 +19,11 @@ const MAX_STATES: u64 = 16_777_216;
 
 const MAX_WIDTH: usize = 64;
 
-// A lift over a rule: `Lift(rule)`, which never refuses. Over a rule that cannot be lifted it acts as the rule itself.
+// A lift over a rule. Over a rule that cannot be lifted it acts as the rule itself.
 #[derive(Drop)]
-pub struct Lift<R>(pub R);
+pub struct Lift<R> {
+    rule: R,
+}
 
 // Why a rule was not lifted, and the rule.
 #[derive(Drop)]
@@ -33,17 +35,25 @@ pub struct Unlifted<R> {
 impl<R: Rule> Lift<R> {
     // The lift of a rule; a rule that cannot be lifted comes back with the refusal.
     pub fn build(rule: R) -> Result<Lift<R>, Unlifted<R>>
-        ensures answer { MatchResult result (λ l. (liftable (shape_of (R.Rule.meaning rule)) ≡ true) × (l.0 ≡ rule)) (λ e. (liftable (shape_of (R.Rule.meaning rule)) ≡ false) × (e.fault ≡ Unliftable) × (e.rule ≡ rule)) }
+        ensures answer { MatchResult result (λ l. (liftable (shape_of (R.Rule.meaning rule)) ≡ true) × (l.rule ≡ rule)) (λ e. (liftable (shape_of (R.Rule.meaning rule)) ≡ false) × (e.fault ≡ Unliftable) × (e.rule ≡ rule)) }
         ensures law { LiftLaws (R.Rule.meaning rule) }
     {
         if is_liftable(rule.shape()) {
-            Ok(Lift(rule))
+            Ok(Lift { rule })
         } else {
             Err(Unlifted {
                 fault: RuleFault::Unliftable,
                 rule,
             })
         }
+    }
+
+    // A lift over any rule: it never refuses, and acts as a rule that cannot be lifted.
+    pub fn over(rule: R) -> Lift<R>
+        ensures answer { result.rule ≡ rule }
+        ensures law { LiftLaws (R.Rule.meaning rule) }
+    {
+        Lift { rule }
     }
 }
 
@@ -52,42 +62,42 @@ impl<R: Rule> Rule for Lift<R> {
 
     ghost kind = { lift_kind };
 
-    ghost meaning = { λ l. lift_or (R.Rule.meaning l.0) };
+    ghost meaning = { λ l. lift_or (R.Rule.meaning l.rule) };
 
-    ghost lawful = { λ x. lawful_lift_or _ (R.Rule.lawful x.0) };
+    ghost lawful = { λ x. lawful_lift_or _ (R.Rule.lawful x.rule) };
 
     fn kind_number() -> u16 {
         LIFT_KIND
     }
 
     fn shape(&self) -> Shape {
-        shape_over(self.0.shape())
+        shape_over(self.rule.shape())
     }
 
     fn inverse(&self) -> Option<(i32, i32)> {
-        let shape = self.0.shape();
+        let shape = self.rule.shape();
         if is_liftable(shape) {
             Some((shape.lo.min(0), shape.hi.max(0)))
         } else {
-            self.0.inverse()
+            self.rule.inverse()
         }
     }
 
     fn next(&self, window: &[u32]) -> Result<u32, RuleFault> {
-        let shape = self.0.shape();
+        let shape = self.rule.shape();
         if is_liftable(shape) {
-            step(&self.0, shape, Direction::Forward, window)
+            step(&self.rule, shape, Direction::Forward, window)
         } else {
-            self.0.next(window)
+            self.rule.next(window)
         }
     }
 
     fn previous(&self, window: &[u32]) -> Result<u32, RuleFault> {
-        let shape = self.0.shape();
+        let shape = self.rule.shape();
         if is_liftable(shape) {
-            step(&self.0, shape, Direction::Backward, window)
+            step(&self.rule, shape, Direction::Backward, window)
         } else {
-            self.0.previous(window)
+            self.rule.previous(window)
         }
     }
 }

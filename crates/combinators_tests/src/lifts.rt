@@ -24,7 +24,7 @@ fn evolve<R: Rule>(
 
 #[test]
 fn the_identity_on_three_states_lifted(rt: HostRuntime) -> Result<(), Fail> {
-    let lift = Lift(Table::new(3, 0, 0, &[0, 1, 2])?);
+    let lift = Lift::over(Table::new(3, 0, 0, &[0, 1, 2])?);
     assert_eq!(rt; lift.next(&[7]), Ok(5));
     assert_eq!(rt; lift.previous(&[5]), Ok(7));
     assert_eq!(rt; lift.inverse(), Some((0, 0)));
@@ -35,7 +35,7 @@ fn the_identity_on_three_states_lifted(rt: HostRuntime) -> Result<(), Fail> {
 
 #[test]
 fn a_lift_reads_its_own_cell_too(rt: HostRuntime) -> Result<(), Fail> {
-    let lift = Lift(Table::new(2, 2, 3, &[0, 1, 1, 0])?);
+    let lift = Lift::over(Table::new(2, 2, 3, &[0, 1, 1, 0])?);
     let shape = Shape {
         states: 4,
         lo: 0,
@@ -51,7 +51,7 @@ fn a_lift_reads_its_own_cell_too(rt: HostRuntime) -> Result<(), Fail> {
 
 #[test]
 fn a_lifted_rule_runs_forward_and_back(rt: HostRuntime) -> Result<(), Fail> {
-    let lift = Lift(Table::elementary(30));
+    let lift = Lift::over(Table::elementary(30));
     let mut ring = vec![in rt.alloc(); 0; 50]?;
     for (i, cell) in ring.iter_mut().enumerate() {
         *cell = if i % 7 == 3 { 1 } else { 0 };
@@ -76,18 +76,18 @@ fn a_rule_that_is_too_wide_comes_back(rt: HostRuntime) -> Result<(), Fail> {
         hi: 64,
     };
     assert_eq!(rt; unlifted.rule.shape(), shape);
-    assert_eq!(rt; Lift(unlifted.rule).shape(), shape);
+    assert_eq!(rt; Lift::over(unlifted.rule).shape(), shape);
     assert!(rt; Lift::build(Table::new(1, 1, 63, &[0])?).is_ok());
     Ok(())
 }
 
 #[test]
 fn a_lift_can_be_lifted_while_it_is_small(rt: HostRuntime) -> Result<(), Fail> {
-    let twice = Lift(Lift(Table::elementary(90)));
+    let twice = Lift::over(Lift::over(Table::elementary(90)));
     assert_eq!(rt; twice.shape().states, 16);
-    let large = Lift(Lift(Table::new(64, 0, 0, &[0; 64])?));
+    let large = Lift::over(Lift::over(Table::new(64, 0, 0, &[0; 64])?));
     assert_eq!(rt; large.shape().states, 16_777_216);
-    let over = Lift(Lift(Table::new(65, 0, 0, &[0; 65])?));
+    let over = Lift::over(Lift::over(Table::new(65, 0, 0, &[0; 65])?));
     assert_eq!(rt; over.shape().states, 4225);
     Ok(())
 }

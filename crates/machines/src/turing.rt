@@ -6,6 +6,7 @@ ghost use Rattle.rings.specs.Line.{tabulate};
 ghost use Rattle.machines.specs.Turing.{StepsAsItsMachine, code_of, arriving, next_symbol, next_code, turing};
 ghost use Rattle.machines.specs.Cells.{acts, drawn_cell};
 ghost use Rattle.machines.specs.Drawings.{draw_fault, draw_answer, draw_buffer};
+ghost use Rattle.machines.specs.Worked.{WorkedRings};
 ghost use Rattle.machines.specs.Transitions.{turing_kind, listed, machine_fits, all_fit, new_transition, new_list, Idles, transition_of, enter_answer, enter_list, Enters};
 ghost use Rattle.std.proofs.Common.{arith};
 ghost use Rattle.machines.specs.Machines.{turing_lawful};
@@ -43,6 +44,7 @@ impl Turing {
     pub fn new(symbols: u32, heads: u32) -> Result<Turing, RuleFault>
         ensures answer { MatchResult result (λ t. (machine_fits symbols heads ≡ true) × (t.symbols ≡ symbols) × (t.heads ≡ heads) × (t.transitions.list ≡ new_list symbols heads)) (λ e. (machine_fits symbols heads ≡ false) × (e ≡ OutOfRange)) }
         ensures law { machine_fits symbols heads ≡ true → Idles (listed symbols heads (new_list symbols heads)) }
+        ensures worked { WorkedRings }
     {
         if !fits(symbols, heads) {
             return Err(RuleFault::OutOfRange);

@@ -25,7 +25,7 @@ map_fault q None ring room = Some NoInverse
 map_fault q (Some l) ring room = ring_fault q ring room
 
 -- What a call answers that only writes.
-abbrev pub outcome : {F : Type 0} → Option F → Result (Unit {0}) F
+abbrev pub outcome : Option RuleFault → Result (Unit {0}) RuleFault
 outcome None = Ok tt
 outcome (Some f) = Err f
 
@@ -41,10 +41,9 @@ image (Some l) ring = ring_map l ring
 abbrev pub written_over : List ℕ → List ℕ → List ℕ
 written_over cells buffer = cells ++ drop (length cells) buffer
 
--- What is there after a call that may be refused: `written`, or what was there before.
-abbrev pub unless_refused : {F X : Type 0} → Option F → X → X → X
-unless_refused None written before = written
-unless_refused (Some f) written before = before
+abbrev pub unless_refused : Option RuleFault → List ℕ → List ℕ → List ℕ
+unless_refused None written buffer = written
+unless_refused (Some f) written buffer = buffer
 
 -- What the buffer holds afterwards: the image and the cells behind it, or all as before where the call is refused.
 abbrev pub map_buffer : Direction → Automaton → List ℕ → List ℕ → List ℕ

@@ -3,7 +3,8 @@ use Rattle.std.proofs.Common.{◌≡◌, ℕ, ◌*◌, ◌/◌, ◌≤◌, min, 
 use Rattle.std.proofs.lemmas.List.{length-take-le, take-append-drop, drop-append-le, take_at}
 use Rattle.std.specs.Option.{option_map}
 use Rattle.rings.specs.Line.{power}
-use Rattle.rules.specs.Maps.{outcome, written_over, unless_refused}
+use Rattle.rules.specs.Maps.{written_over}
+use Rattle.runs.specs.Outcomes.{outcome, unless_refused}
 use Rattle.towers.specs.declared.fault.TowerFault.{TowerFault}
 use Rattle.towers.specs.Towers.{Tower, Fitting}
 use Rattle.towers.specs.Numbers.{Standing}

@@ -4,7 +4,8 @@ use Rattle.std.proofs.lemmas.Bool.{le-ltb, ne_eqb}
 use Rattle.std.specs.Option.{option_map}
 use Rattle.rings.specs.Ring.{Ring, first_stray, rotate}
 use Rattle.rules.specs.declared.fault.RuleFault.TheVariants.{ShortBuffer}
-use Rattle.rules.specs.Maps.{outcome, written_over, unless_refused}
+use Rattle.rules.specs.Maps.{written_over}
+use Rattle.runs.specs.Outcomes.{outcome, unless_refused}
 use Rattle.towers.specs.declared.fault.TowerFault.{TowerFault}
 use Rattle.towers.specs.declared.fault.TowerFault.TheVariants.{Rule}
 use Rattle.towers.specs.Towers.{Tower, Stands}

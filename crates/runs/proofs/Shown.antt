@@ -11,7 +11,8 @@ use Rattle.rings.specs.Automaton.{Automaton, toward, after, Goes}
 use Rattle.rings.proofs.Ring.{first_stray-codes}
 use Rattle.rings.proofs.Automaton.{after_add, length-after, ring-after, goes_any}
 use Rattle.rules.specs.declared.fault.RuleFault.TheVariants.{ShortBuffer, NoInverse}
-use Rattle.rules.specs.Maps.{outcome, written_over, unless_refused}
+use Rattle.rules.specs.Maps.{written_over}
+use Rattle.runs.specs.Outcomes.{outcome, unless_refused}
 use Rattle.towers.specs.Towers.{Tower, Fitting, Stands}
 use Rattle.towers.proofs.Steps.{goes_same}
 use Rattle.runs.specs.declared.Call.{Call}

@@ -11,7 +11,8 @@ use Rattle.rings.specs.Automaton.{Automaton, after}
 use Rattle.rings.proofs.Automaton.{length-after}
 use Rattle.rules.specs.declared.fault.RuleFault.TheVariants.{EmptyRing, LongRing, ShortBuffer, NoInverse}
 use Rattle.rules.specs.Answers.{shape_of}
-use Rattle.rules.specs.Maps.{outcome, written_over, unless_refused}
+use Rattle.rules.specs.Maps.{written_over}
+use Rattle.runs.specs.Outcomes.{outcome, unless_refused}
 use Rattle.combinators.specs.Lifts.{liftable, lifted, lift_or}
 use Rattle.towers.specs.declared.fault.TowerFault.TheVariants.{Rule, Ragged}
 use Rattle.towers.specs.Towers.{Tower, Stands}

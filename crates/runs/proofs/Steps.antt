@@ -11,7 +11,8 @@ use Rattle.rings.specs.Local.{Local}
 use Rattle.rings.specs.Automaton.{Automaton, Sound, toward, after, Goes}
 use Rattle.rings.proofs.Ring.{first_stray-codes}
 use Rattle.rings.proofs.Automaton.{after_add, length-after, ring-after}
-use Rattle.rules.specs.Maps.{map_fault, map_buffer, image, written_over, one_step, StepLaw, unless_refused}
+use Rattle.rules.specs.Maps.{map_fault, map_buffer, image, written_over, one_step, StepLaw}
+use Rattle.runs.specs.Outcomes.{unless_refused}
 use Rattle.rules.proofs.Maps.{step-laws}
 use Rattle.runs.specs.States.{State, is_even, of_holder, held, toward_steps, holding, moved}
 use Rattle.runs.proofs.Refusals.{Roomy, Movable}

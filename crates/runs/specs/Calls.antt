@@ -7,7 +7,8 @@ use Rattle.rings.specs.Ring.{first_stray, rotate}
 use Rattle.rings.specs.Automaton.{Automaton, toward}
 use Rattle.rules.specs.declared.fault.RuleFault.{RuleFault}
 use Rattle.rules.specs.declared.fault.RuleFault.TheVariants.{StrayCode, ShortBuffer, NoInverse}
-use Rattle.rules.specs.Maps.{written_over, unless_refused}
+use Rattle.rules.specs.Maps.{written_over}
+use Rattle.runs.specs.Outcomes.{unless_refused}
 use Rattle.towers.specs.declared.fault.TowerFault.TheVariants.{Rule}
 use Rattle.towers.specs.Towers.{Tower as Meaning}
 use Rattle.towers.specs.Encodings.{encode_fault}

@@ -7,7 +7,8 @@ use Rattle.rings.specs.Automaton.{Automaton, after, Goes}
 use Rattle.rules.specs.declared.fault.RuleFault.TheVariants.{ShortBuffer, NoInverse}
 use Rattle.rules.specs.Answers.{shape_of}
 use Rattle.combinators.specs.Lifts.{liftable, lift_or}
-use Rattle.rules.specs.Maps.{outcome, written_over, unless_refused}
+use Rattle.rules.specs.Maps.{written_over}
+use Rattle.runs.specs.Outcomes.{outcome, unless_refused}
 use Rattle.towers.specs.Towers.{Tower, Fitting}
 use Rattle.runs.specs.declared.Call.{Call}
 use Rattle.runs.specs.declared.Call.TheVariants.{Advance, Back, Read, Present, Tell}

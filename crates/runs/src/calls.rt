@@ -3,7 +3,8 @@ ghost use Rattle.std.specs.Prelude.{◌≡◌, ℕ, ◌≤◌, true, List, lengt
 ghost use Rattle.rings.specs.declared.Direction.TheVariants.{Forward, Backward};
 ghost use Rattle.rings.specs.Ring.{Codes, first_stray};
 ghost use Rattle.rings.specs.Automaton.{toward, after};
-ghost use Rattle.rules.specs.Maps.{outcome, written_over};
+ghost use Rattle.rules.specs.Maps.{written_over};
+ghost use Rattle.runs.specs.Outcomes.{outcome};
 ghost use Rattle.runs.specs.declared.Call.TheVariants.{Advance, Back};
 ghost use Rattle.runs.specs.States.{held, is_even, of_holder, toward_steps, moved};
 ghost use Rattle.runs.specs.Calls.{stray_fault, is_too_far, move_fault, tried, read_fault, read_buffer, present_fault};

@@ -44,8 +44,8 @@ impl TowerFault {
 impl From<RuleFault> for TowerFault {
     ghost from_gives = { λ e r. r ≡ Rule e };
 
-    fn from(cause: RuleFault) -> TowerFault {
-        TowerFault::Rule(cause)
+    fn from(fault: RuleFault) -> TowerFault {
+        TowerFault::Rule(fault)
     }
 }
 

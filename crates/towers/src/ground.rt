@@ -10,26 +10,36 @@ use rules::{Rule, RuleFault, Shape};
 
 const GROUND_KIND: u16 = 0x0001;
 
-// A rule as a tower: `Ground(rule)`, which never refuses. The top is the bottom, and a ring encodes itself.
+// A rule as a tower: the top is the bottom, and a ring encodes itself.
 #[derive(Drop)]
-pub struct Ground<R>(pub R);
+pub struct Ground<R> {
+    rule: R,
+}
+
+impl<R: Rule> Ground<R> {
+    pub fn over(rule: R) -> Ground<R>
+        ensures answer { result.rule ≡ rule }
+    {
+        Ground { rule }
+    }
+}
 
 impl<R: Rule> Tower for Ground<R> {
     const KIND: u16 = GROUND_KIND;
 
     ghost kind = { ground_kind };
 
-    ghost tower = { λ x. ground (R.Rule.meaning x.0) };
+    ghost tower = { λ x. ground (R.Rule.meaning x.rule) };
 
-    ghost stands = { λ x. ground_standing _ (R.Rule.lawful x.0) };
+    ghost stands = { λ x. ground_standing _ (R.Rule.lawful x.rule) };
 
     fn tower_kind() -> u16 {
         GROUND_KIND
     }
 
     fn numbers(&self) -> Numbers {
-        let shape = self.0.shape();
-        let inverse = self.0.inverse();
+        let shape = self.rule.shape();
+        let inverse = self.rule.inverse();
         Numbers {
             states: shape.states,
             lo: shape.lo,
@@ -44,11 +54,11 @@ impl<R: Rule> Tower for Ground<R> {
     }
 
     fn top_next(&self, window: &[u32]) -> Result<u32, RuleFault> {
-        self.0.next(window)
+        self.rule.next(window)
     }
 
     fn top_previous(&self, window: &[u32]) -> Result<u32, RuleFault> {
-        self.0.previous(window)
+        self.rule.previous(window)
     }
 
     fn place(&self, n: usize, j: usize) -> Result<Place, TowerFault> {
@@ -67,7 +77,7 @@ impl<R: Rule> Rule for Ground<R> {
 
     ghost kind = { ground_kind };
 
-    ghost meaning = { λ x. R.Rule.meaning x.0 };
+    ghost meaning = { λ x. R.Rule.meaning x.rule };
 
     ghost lawful = { Prim.search rules };
 

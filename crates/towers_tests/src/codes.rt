@@ -10,14 +10,14 @@ const RING: [u32; 10] = [1, 0, 3, 0, 0, 2, 1, 0, 0, 0];
 
 // Four floors over rule 90 lifted.
 fn four_floors() -> Floor<Floor<Floor<Floor<Ground<Lift<Table>>>>>> {
-    let ground = Ground(Lift(Table::elementary(90)));
+    let ground = Ground::over(Lift::over(Table::elementary(90)));
     let mirrored = Floor::over(Floor::over(ground, Action::Pack(2)), Action::Mirror);
     Floor::over(Floor::over(mirrored, Action::Shift(3)), Action::Iterate(2))
 }
 
 // The ring after two steps of rule 90 lifted.
 fn step_twice(direction: Direction) -> Result<[u32; 10], RuleFault> {
-    let rule = Lift(Table::elementary(90));
+    let rule = Lift::over(Table::elementary(90));
     let mut once = [0; 10];
     map_ring(&rule, direction, &RING, &mut once)?;
     let mut twice = [0; 10];
@@ -35,7 +35,7 @@ fn refusal(answer: Result<(), TowerFault>) -> (u16, usize) {
 
 #[test]
 fn rule_110_reduced(rt: HostRuntime) -> Result<(), Fail> {
-    let ground = Ground(Table::elementary(110));
+    let ground = Ground::over(Table::elementary(110));
     let Ok(floor) = Floor::build(ground, Action::Reduce, 1) else {
         return Err(Fail::new("not reduced"));
     };
@@ -61,7 +61,7 @@ fn rule_110_reduced(rt: HostRuntime) -> Result<(), Fail> {
 
 #[test]
 fn a_refused_encoding_leaves_the_buffer(rt: HostRuntime) -> Result<(), Fail> {
-    let floor = Floor::over(Ground(Table::elementary(110)), Action::Pack(3));
+    let floor = Floor::over(Ground::over(Table::elementary(110)), Action::Pack(3));
     let mut buffer = [9; 1];
     assert_eq!(rt; refusal(encode(&floor, &[], &mut buffer)), (1, 0));
     assert_eq!(rt; refusal(encode(&floor, &[0, 2, 0, 0], &mut buffer)), (3, 0));
@@ -77,7 +77,7 @@ fn a_refused_encoding_leaves_the_buffer(rt: HostRuntime) -> Result<(), Fail> {
 
 #[test]
 fn a_refused_decoding_leaves_the_buffer(rt: HostRuntime) -> Result<(), Fail> {
-    let floor = Floor::over(Ground(Table::elementary(110)), Action::Pack(3));
+    let floor = Floor::over(Ground::over(Table::elementary(110)), Action::Pack(3));
     let mut buffer = [9; 4];
     assert_eq!(rt; refusal(decode(&floor, &[], &mut buffer)), (1, 0));
     assert_eq!(rt; refusal(decode(&floor, &[7, 8], &mut buffer)), (4, 1));
@@ -90,7 +90,7 @@ fn a_refused_decoding_leaves_the_buffer(rt: HostRuntime) -> Result<(), Fail> {
 
 #[test]
 fn a_top_cell_steps_by_its_window(rt: HostRuntime) {
-    let ground = Ground(Lift(Table::elementary(90)));
+    let ground = Ground::over(Lift::over(Table::elementary(90)));
     let floor = Floor::over(ground, Action::Pack(2));
     assert_eq!(rt; floor.top_next(&[0, 1, 0]), Ok(6));
     assert_eq!(rt; floor.top_previous(&[0, 1, 0]), Ok(2));

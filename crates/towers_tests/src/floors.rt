@@ -4,6 +4,14 @@ use rules::Table;
 use std::test::Fail;
 use towers::{Ground, Place, Tower};
 
+// The number of the fault with which an action is refused, or 0.
+fn refusal(number: u16, argument: i16) -> u16 {
+    match Action::new(number, argument) {
+        Ok(_) => 0,
+        Err(fault) => fault.number(),
+    }
+}
+
 // The number of the fault with which a place is refused, or 0.
 fn place_refusal<T: Tower>(tower: &T, n: usize, j: usize) -> u16 {
     match tower.place(n, j) {
@@ -51,8 +59,30 @@ fn an_action_has_a_number_and_a_range(rt: HostRuntime) {
 }
 
 #[test]
+fn an_action_has_bounds(rt: HostRuntime) -> Result<(), Fail> {
+    assert_eq!(rt; refusal(6, 0), 9);
+    assert_eq!(rt; refusal(0, 1), 9);
+    assert_eq!(rt; refusal(4, 1), 9);
+    assert_eq!(rt; refusal(5, 1), 9);
+    assert_eq!(rt; refusal(1, 0), 9);
+    assert_eq!(rt; refusal(1, 17), 9);
+    assert_eq!(rt; refusal(2, 17), 9);
+    assert_eq!(rt; refusal(3, 17), 9);
+    assert_eq!(rt; refusal(3, -17), 9);
+    let Ok(pack) = Action::new(1, 16) else {
+        return Err(Fail::new("no pack"));
+    };
+    assert_eq!(rt; pack.number(), 1);
+    let Ok(shift) = Action::new(3, -16) else {
+        return Err(Fail::new("no shift"));
+    };
+    assert_eq!(rt; shift.number(), 3);
+    Ok(())
+}
+
+#[test]
 fn four_floors_multiply_their_numbers(rt: HostRuntime) -> Result<(), Fail> {
-    let ground = Ground(Table::elementary(110));
+    let ground = Ground::over(Table::elementary(110));
     let Ok(first) = Floor::build(ground, Action::Pack(2), 1) else {
         return Err(Fail::new("no pack"));
     };
@@ -80,7 +110,7 @@ fn four_floors_multiply_their_numbers(rt: HostRuntime) -> Result<(), Fail> {
 
 #[test]
 fn a_floor_that_does_not_fit_brings_the_tower_back(rt: HostRuntime) -> Result<(), Fail> {
-    let ground = Ground(Table::elementary(110));
+    let ground = Ground::over(Table::elementary(110));
     let Ok(first) = Floor::build(ground, Action::Pack(16), 1) else {
         return Err(Fail::new("no pack"));
     };
@@ -110,7 +140,7 @@ fn a_floor_that_does_not_fit_brings_the_tower_back(rt: HostRuntime) -> Result<()
 
 #[test]
 fn a_bottom_cell_has_a_place(rt: HostRuntime) -> Result<(), Fail> {
-    let packed = Floor::over(Ground(Table::elementary(110)), Action::Pack(3));
+    let packed = Floor::over(Ground::over(Table::elementary(110)), Action::Pack(3));
     assert_eq!(rt; place_refusal(&packed, 0, 0), 1);
     assert_eq!(rt; place_refusal(&packed, 4, 0), 3);
     assert_eq!(rt; place_refusal(&packed, 4, 4), 3);

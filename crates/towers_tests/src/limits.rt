@@ -46,7 +46,7 @@ const WIDTHS: [Case; 4] = [
 
 // A rule with one state that reads the cells lo to hi.
 fn one_state(lo: i32, hi: i32) -> Result<Ground<Table>, RuleFault> {
-    Ok(Ground(Table::new(1, lo, hi, &[0])?))
+    Ok(Ground::over(Table::new(1, lo, hi, &[0])?))
 }
 
 // The number of the fault with which an action over a tower is refused, or 0.
@@ -94,14 +94,14 @@ fn intervals_have_a_width(rt: HostRuntime) -> Result<(), Fail> {
 #[test]
 fn states_are_at_most_16_777_216(rt: HostRuntime) -> Result<(), Fail> {
     let eight = [0; 64];
-    let packed = Ground(Table::new(8, 0, 1, &eight)?);
+    let packed = Ground::over(Table::new(8, 0, 1, &eight)?);
     assert_eq!(rt; refusal(packed, Action::Pack(8)), 0);
-    let packed = Ground(Table::new(8, 0, 1, &eight)?);
+    let packed = Ground::over(Table::new(8, 0, 1, &eight)?);
     assert_eq!(rt; refusal(packed, Action::Pack(9)), UNFIT);
     // a reduction packs the width less one
-    let nine = Floor::over(Ground(Table::new(8, 0, 1, &eight)?), Action::Iterate(8));
+    let nine = Floor::over(Ground::over(Table::new(8, 0, 1, &eight)?), Action::Iterate(8));
     assert_eq!(rt; refusal(nine, Action::Reduce), 0);
-    let ten = Floor::over(Ground(Table::new(8, 0, 1, &eight)?), Action::Iterate(9));
+    let ten = Floor::over(Ground::over(Table::new(8, 0, 1, &eight)?), Action::Iterate(9));
     assert_eq!(rt; refusal(ten, Action::Reduce), UNFIT);
     Ok(())
 }
@@ -160,15 +160,15 @@ fn the_interval_of_an_inverse_has_ends(rt: HostRuntime) -> Result<(), Fail> {
 
 // A lift with the interval 0 to 60, and -120 to -60 for its inverse.
 fn inverse_at_an_end() -> Result<Floor<Floor<Ground<Lift<Table>>>>, RuleFault> {
-    let lift = Lift(Table::new(1, -4, 0, &[0])?);
-    let moved = Floor::over(Ground(lift), Action::Shift(4));
+    let lift = Lift::over(Table::new(1, -4, 0, &[0])?);
+    let moved = Floor::over(Ground::over(lift), Action::Shift(4));
     Ok(Floor::over(moved, Action::Iterate(15)))
 }
 
 #[test]
 fn reduction_moves_an_interval_from_afar(rt: HostRuntime) -> Result<(), Fail> {
     let floor = Floor::over(
-        Ground(Table::new(2, 100, 101, &[0, 1, 1, 0])?),
+        Ground::over(Table::new(2, 100, 101, &[0, 1, 1, 0])?),
         Action::Reduce,
     );
     let numbers = floor.numbers();

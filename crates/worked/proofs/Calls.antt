@@ -6,13 +6,13 @@ use Rattle.rings.specs.Ring.{first_stray, rotate}
 use Rattle.rings.specs.Local.{Local}
 use Rattle.rings.proofs.Ring.{length-rotate}
 use Rattle.rules.specs.declared.fault.RuleFault.TheVariants.{EmptyRing}
-use Rattle.rules.specs.Maps.{image, outcome, unless_refused, written_over}
+use Rattle.rules.specs.Maps.{image, written_over}
 use Rattle.rules.proofs.Maps.{length-image}
 use Rattle.towers.specs.declared.fault.TowerFault.{TowerFault}
 use Rattle.towers.specs.declared.fault.TowerFault.TheVariants.{Rule}
 use Rattle.towers.specs.Towers.{Tower, Fitting}
 use Rattle.towers.specs.Numbers.{Standing}
-use Rattle.towers.specs.Encodings.{encode_fault, encode_answer, encode_buffer, rotated_fault, rotated_answer, rotated_buffer, stray_or_short}
+use Rattle.towers.specs.Encodings.{outcome, unless_refused, encode_fault, encode_answer, encode_buffer, rotated_fault, rotated_answer, rotated_buffer, stray_or_short}
 use Rattle.towers.proofs.Calls.{encodable, fitting_of, rotatable, rotated_fault_else}
 
 -- steps of a direction

@@ -18,12 +18,12 @@ pub(crate) type FourFloors = Floor<Floor<Floor<Floor<Ground<Table>>>>>;
 
 // Rule 110 reduced.
 pub(crate) fn reduced_110() -> Floor<Ground<Table>> {
-    Floor::over(Ground(Table::elementary(110)), Action::Reduce)
+    Floor::over(Ground::over(Table::elementary(110)), Action::Reduce)
 }
 
 // Four floors over rule 110: pack 2, mirror, shift 3, iterate 4.
 pub(crate) fn four_floors() -> FourFloors {
-    let ground = Ground(Table::elementary(110));
+    let ground = Ground::over(Table::elementary(110));
     let mirrored = Floor::over(Floor::over(ground, Action::Pack(2)), Action::Mirror);
     Floor::over(Floor::over(mirrored, Action::Shift(3)), Action::Iterate(4))
 }
@@ -77,7 +77,7 @@ fn binary_ring(heap: Global, cells: u32, number: u32) -> Result<Vec<u32>, AllocE
 // Rule 110 mirrored is rule 124, on every ring of a few cells.
 fn mirror_110(rt: &HostRuntime, totals: &mut Totals) -> anyhow::Result<()> {
     let heap = rt.alloc();
-    let mirrored = Floor::over(Ground(Table::elementary(110)), Action::Mirror);
+    let mirrored = Floor::over(Ground::over(Table::elementary(110)), Action::Mirror);
     let rule = Table::elementary(124);
     let mut count: u32 = 0;
     let mut same = true;
@@ -126,7 +126,7 @@ fn pile_floors(rt: &HostRuntime, totals: &mut Totals) -> anyhow::Result<()> {
 // Whether packs of so many cells of a rule with 8 states fit.
 fn packs_fit(cells: u32) -> Result<bool, RuleFault> {
     let identity = Table::new(8, 0, 0, &[0, 1, 2, 3, 4, 5, 6, 7])?;
-    match Floor::build(Ground(identity), Action::Pack(cells), 1) {
+    match Floor::build(Ground::over(identity), Action::Pack(cells), 1) {
         Ok(_) => Ok(true),
         Err(_) => Ok(false),
     }
@@ -147,7 +147,7 @@ fn pack_states(rt: &HostRuntime, totals: &mut Totals) -> anyhow::Result<()> {
 // The identity on three states, lifted.
 fn lift_identity(rt: &HostRuntime, totals: &mut Totals) -> anyhow::Result<()> {
     let heap = rt.alloc();
-    let lift = Lift(Table::new(3, 0, 0, &[0, 1, 2])?);
+    let lift = Lift::over(Table::new(3, 0, 0, &[0, 1, 2])?);
     let next = evolve(heap, &lift, Direction::Forward, &[7], 1)?;
     totals.compare(
         rt,

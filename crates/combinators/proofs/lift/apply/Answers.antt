@@ -6,4 +6,4 @@ use Rattle.combinators.proofs.lift.apply.Goals as goal
 pub returns : goal.returns
 returns g c =
     let a = g.R.Rule.meaning c.args.rule.now in
-    c.unwrap-or.ensures ∙ ap (λ r. result_unwrap_or r 0) (c.next.ensures.answer ∙ answer-reads a.states (Some a.forward) c.args.window.now c.requires)
+    c.unwrap_or.ensures ∙ ap (λ r. result_unwrap_or r 0) (c.next.ensures.answer ∙ answer-reads a.states (Some a.forward) c.args.window.now c.requires)

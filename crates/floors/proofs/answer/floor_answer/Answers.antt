@@ -10,20 +10,20 @@ use Rattle.floors.proofs.answer.floor_answer.Goals.{In-Some}
 pub act-requires : goal.act-requires
 act-requires g c = subst Workable (sym c.numbers-x.ensures.answer) (workable _ (g.met.T.Tower.stands c.args.below.now))
 
-pub reduced-block-requires : goal.reduced-block-requires
-reduced-block-requires g c = subst Workable (sym c.numbers-x.ensures.answer) (workable _ (g.met.T.Tower.stands c.args.below.now))
+pub reduced_block-requires : goal.reduced_block-requires
+reduced_block-requires g c = subst Workable (sym c.numbers-x.ensures.answer) (workable _ (g.met.T.Tower.stands c.args.below.now))
 
-pub returns-in-default : goal.returns-in-default
-returns-in-default g c = c.answered.ensures ∙ rests_below c.args.action _ c.args.direction c.args.window.now c.numbers-x.result c.numbers-x.ensures.answer c.in-default.ensures
+pub returns-in_default : goal.returns-in_default
+returns-in_default g c = c.answered.ensures ∙ rests_below c.args.action _ c.args.direction c.args.window.now c.numbers-x.result c.numbers-x.ensures.answer c.in_default.ensures
 
 -- the action acts
 acting : (g : given.Over) (c : In-Some g) → Acts (g.T.Tower.tower c.args.below.now) c.args.action c.numbers-x.result c.in-Some.top
 acting g c = record { standing = g.met.T.Tower.stands c.args.below.now; same = c.numbers-x.ensures.answer; acts = c.in-Some.ensures }
 
-pub returns-in-default-interval-of : goal.returns-in-default-interval-of
-returns-in-default-interval-of g c =
-    let floor = acting g (goal.at.returns-in-default-interval-of g c).In-Some in
-    c.answered-in-default-interval-of.ensures ∙ refuses floor c.args.direction c.args.window.now c.in-default-interval-of.ensures
+pub returns-in_default-interval_of : goal.returns-in_default-interval_of
+returns-in_default-interval_of g c =
+    let floor = acting g (goal.at.returns-in_default-interval_of g c).In-Some in
+    c.answered-in_default-interval_of.ensures ∙ refuses floor c.args.direction c.args.window.now c.in_default-interval_of.ensures
 
 pub returns-in-Unchanged : goal.returns-in-Unchanged
 returns-in-Unchanged g c =
@@ -35,8 +35,8 @@ returns-in-Unchanged g c =
 pub iterated-requires : goal.iterated-requires
 iterated-requires g c =
     let floor = acting g (goal.at.iterated-requires g c).In-Some in
-    let wide = width-found floor c.args.direction c.in-Some-interval-of.ensures c.interval-width-width.result c.interval-width-width.ensures in
-    let few = iterate-narrow floor c.args.direction c.in-Some-interval-of.ensures c.in-Iterate.times c.interval-width-width.result c.in-Iterate.is wide.0 in
+    let wide = width-found floor c.args.direction c.in-Some-interval_of.ensures c.interval_width-width.result c.interval_width-width.ensures in
+    let few = iterate-narrow floor c.args.direction c.in-Some-interval_of.ensures c.in-Iterate.times c.interval_width-width.result c.in-Iterate.is wide.0 in
     record { width = (wide.0, (wide.1, few)); states = ap (λ x. x.states) floor.same }
 
 pub returns-in-Iterate : goal.returns-in-Iterate
@@ -49,7 +49,7 @@ returns-in-Iterate g c =
 pub mirrored-requires : goal.mirrored-requires
 mirrored-requires g c =
     let floor = acting g (goal.at.mirrored-requires g c).In-Some in
-    record { width = width-found floor c.args.direction c.in-Some-interval-of.ensures c.interval-width-width.result c.interval-width-width.ensures; states = ap (λ x. x.states) floor.same }
+    record { width = width-found floor c.args.direction c.in-Some-interval_of.ensures c.interval_width-width.result c.interval_width-width.ensures; states = ap (λ x. x.states) floor.same }
 
 pub returns-in-Mirror : goal.returns-in-Mirror
 returns-in-Mirror g c =
@@ -58,26 +58,26 @@ returns-in-Mirror g c =
 
 -- blocks
 
-pub blocks-of-blocks-requires : goal.blocks-of-blocks-requires
-blocks-of-blocks-requires g c =
-    let floor = acting g (goal.at.blocks-of-blocks-requires g c).In-Some in
-    (lawful_found floor c.args.direction c.in-Some-interval-of.ensures, pack_range floor c.args.direction c.in-Some-interval-of.ensures c.in-Pack.is)
+pub blocks_of-blocks-requires : goal.blocks_of-blocks-requires
+blocks_of-blocks-requires g c =
+    let floor = acting g (goal.at.blocks_of-blocks-requires g c).In-Some in
+    (lawful_found floor c.args.direction c.in-Some-interval_of.ensures, pack_range floor c.args.direction c.in-Some-interval_of.ensures c.in-Pack.is)
 
 pub packed-requires : goal.packed-requires
 packed-requires g c =
     let floor = acting g (goal.at.packed-requires g c).In-Some in
-    pack_asks floor c.args.direction c.in-Some-interval-of.ensures c.in-Pack.is c.blocks-of-blocks.ensures
+    pack_asks floor c.args.direction c.in-Some-interval_of.ensures c.in-Pack.is c.blocks_of-blocks.ensures
 
 pub returns-in-Pack : goal.returns-in-Pack
 returns-in-Pack g c =
     let floor = acting g (goal.at.returns-in-Pack g c).In-Some in
-    c.packed.ensures ∙ packs floor c.args.direction c.in-Some-interval-of.ensures c.in-Pack.is c.blocks-of-blocks.ensures c.args.window.now
+    c.packed.ensures ∙ packs floor c.args.direction c.in-Some-interval_of.ensures c.in-Pack.is c.blocks_of-blocks.ensures c.args.window.now
 
 -- reduction
 
-pub overflow-sub-x : goal.overflow-sub-x
-overflow-sub-x g c =
-    let floor = acting g (goal.at.overflow-sub-x g c).In-Some in
+pub overflow_sub-x : goal.overflow_sub-x
+overflow_sub-x g c =
+    let floor = acting g (goal.at.overflow_sub-x g c).In-Some in
     let small = small_start floor c.args.direction in
     search rules
 
@@ -87,24 +87,24 @@ along-requires g c =
     let small = small_start floor c.args.direction in
     omega (arith, ints)
 
-pub shift-ends-shifted-requires : goal.shift-ends-shifted-requires
-shift-ends-shifted-requires g c =
-    let floor = acting g (goal.at.shift-ends-shifted-requires g c).In-Some in
-    (lawful_found floor c.args.direction c.in-Some-interval-of.ensures, omega (arith, ints, c.along.ensures.small))
+pub shift_ends-shifted-requires : goal.shift_ends-shifted-requires
+shift_ends-shifted-requires g c =
+    let floor = acting g (goal.at.shift_ends-shifted-requires g c).In-Some in
+    (lawful_found floor c.args.direction c.in-Some-interval_of.ensures, omega (arith, ints, c.along.ensures.small))
 
-pub blocks-of-blocks-requires-in-Reduce : goal.blocks-of-blocks-requires-in-Reduce
-blocks-of-blocks-requires-in-Reduce g c =
-    let floor = acting g (goal.at.blocks-of-blocks-requires-in-Reduce g c).In-Some in (
-      lawful_moved floor c.args.direction c.in-Some-interval-of.ensures c.in-Reduce.is c.along.ensures.value c.along.ensures.small c.shift-ends-shifted.ensures,
-      reduce_range floor c.args.direction c.in-Some-interval-of.ensures c.in-Reduce.is c.along.ensures.value c.along.ensures.small c.shift-ends-shifted.ensures c.reduced_block.ensures,
+pub blocks_of-blocks-requires-in-Reduce : goal.blocks_of-blocks-requires-in-Reduce
+blocks_of-blocks-requires-in-Reduce g c =
+    let floor = acting g (goal.at.blocks_of-blocks-requires-in-Reduce g c).In-Some in (
+      lawful_moved floor c.args.direction c.in-Some-interval_of.ensures c.in-Reduce.is c.along.ensures.value c.along.ensures.small c.shift_ends-shifted.ensures,
+      reduce_range floor c.args.direction c.in-Some-interval_of.ensures c.in-Reduce.is c.along.ensures.value c.along.ensures.small c.shift_ends-shifted.ensures c.reduced_block.ensures,
     )
 
 pub packed-requires-in-Reduce : goal.packed-requires-in-Reduce
 packed-requires-in-Reduce g c =
     let floor = acting g (goal.at.packed-requires-in-Reduce g c).In-Some in
-    reduce_asks floor c.args.direction c.in-Some-interval-of.ensures c.in-Reduce.is c.along.ensures.value c.along.ensures.small c.shift-ends-shifted.ensures c.reduced_block.ensures c.blocks-of-blocks-in-Reduce.ensures
+    reduce_asks floor c.args.direction c.in-Some-interval_of.ensures c.in-Reduce.is c.along.ensures.value c.along.ensures.small c.shift_ends-shifted.ensures c.reduced_block.ensures c.blocks_of-blocks-in-Reduce.ensures
 
 pub returns-in-Reduce : goal.returns-in-Reduce
 returns-in-Reduce g c =
     let floor = acting g (goal.at.returns-in-Reduce g c).In-Some in
-    c.packed-in-Reduce.ensures ∙ reduces_to floor c.args.direction c.in-Some-interval-of.ensures c.in-Reduce.is c.along.ensures.value c.along.ensures.small c.shift-ends-shifted.ensures c.reduced_block.ensures c.blocks-of-blocks-in-Reduce.ensures c.args.window.now
+    c.packed-in-Reduce.ensures ∙ reduces_to floor c.args.direction c.in-Some-interval_of.ensures c.in-Reduce.is c.along.ensures.value c.along.ensures.small c.shift_ends-shifted.ensures c.reduced_block.ensures c.blocks_of-blocks-in-Reduce.ensures c.args.window.now

@@ -12,5 +12,5 @@ returns g c =
     let d = c.args.direction in
     let a = (g.T.Tower.tower x).top in
     let ws = c.args.window.now in
-    let e : c.unwrap-or.result ≡ value_of (toward d a) ws = c.unwrap-or.ensures ∙ ap (λ r. result_unwrap_or r 0) (c.answered.ensures ∙ answer-reads a.states (toward d a) ws c.requires) in
+    let e : c.unwrap_or.result ≡ value_of (toward d a) ws = c.unwrap_or.ensures ∙ ap (λ r. result_unwrap_or r 0) (c.answered.ensures ∙ answer-reads a.states (toward d a) ws c.requires) in
     record { value = e; below = omega (arith, e, value_lt a.states (toward d a) ws (usable_top _ d (g.met.T.Tower.stands x)) c.requires) }

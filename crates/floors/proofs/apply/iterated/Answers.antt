@@ -14,8 +14,8 @@ use Rattle.floors.proofs.apply.iterated.Given as given
 use Rattle.floors.proofs.apply.iterated.Goals as goal
 use Rattle.floors.proofs.apply.iterated.Goals.{In-loop-i}
 
-pub returns-in-err-check-window : goal.returns-in-err-check-window
-returns-in-err-check-window g c =
+pub returns-in_err-check_window : goal.returns-in_err-check_window
+returns-in_err-check_window g c =
     let x = c.args.tower.now in
     let a = (g.T.Tower.tower x).top in
     let o = toward c.args.direction a in
@@ -23,14 +23,14 @@ returns-in-err-check-window g c =
     let w = c.args.width in
     let p = err_from_is_err_and c.from-residual.result c.from-residual.ensures.1 in
     rw (p.1, p.2) (answer-refused c.args.states (option_map (iterate_local t) o) (t * (w - 1) + 1) c.args.window.now _
-    (width_iterated a.states o w t (usable_top _ c.args.direction (g.met.T.Tower.stands x)) c.requires.width.0) c.in-err-check-window.ensures.answer)
+    (width_iterated a.states o w t (usable_top _ c.args.direction (g.met.T.Tower.stands x)) c.requires.width.0) c.in_err-check_window.ensures.answer)
 
 pub loop-i-init : goal.loop-i-init
 unfolding power
 loop-i-init g c =
     let n = c.args.times * (c.args.width - 1) + 1 in
-    let len = (readable c.args.states n c.args.window.now c.in-ok-check-window.ensures.answer).len in
-    (ap (λ k. take k c.row-of-row.result) (sym len) ∙ c.row-of-row.ensures, omega arith, search rules)
+    let len = (readable c.args.states n c.args.window.now c.in_ok-check_window.ensures.answer).len in
+    (ap (λ k. take k c.row_of-row.result) (sym len) ∙ c.row_of-row.ensures, omega arith, search rules)
 
 -- the row at the start of a turn
 row_now : (g : given.Over) (c : In-loop-i g) → RowBefore c.args.times c.args.width c.loop-i.-i c.loop-i.count c.loop-i.row
@@ -38,8 +38,8 @@ row_now g c =
     row_before (toward c.args.direction (g.T.Tower.tower c.args.tower.now).top) c.args.times c.args.width c.loop-i.-i c.loop-i.count c.loop-i.row
     c.requires.width.0 c.requires.width.1.1 c.loop-i-test.true c.loop-i.invariant.1 c.loop-i.invariant.2
 
-pub advance-row-requires : goal.advance-row-requires
-advance-row-requires g c =
+pub advance_row-requires : goal.advance_row-requires
+advance_row-requires g c =
     let x = c.args.tower.now in
     let a = (g.T.Tower.tower x).top in
     let d = c.args.direction in
@@ -47,16 +47,16 @@ advance-row-requires g c =
     let ws = c.args.window.now in
     let count = c.loop-i.count in
     let row = c.loop-i.row in
-    let before = row_now g (goal.at.advance-row-requires g c).In-loop-i in
+    let before = row_now g (goal.at.advance_row-requires g c).In-loop-i in
     let n : count - 0 ≡ count = omega arith in
-    let codes = (readable-same c.args.states a.states (c.args.times * (w - 1) + 1) ws c.requires.states c.in-ok-check-window.ensures.answer).codes in
+    let codes = (readable-same c.args.states a.states (c.args.times * (w - 1) + 1) ws c.requires.states c.in_ok-check_window.ensures.answer).codes in
     record {
       width = (c.requires.width.0, (omega (arith, before.size, before.wide), omega (arith, before.size, before.short)));
       codes = subst (Codes a.states) (sym (ap (λ k. take k row) n ∙ c.loop-i.invariant.0)) (codes_rows a.states (toward d a) w (usable_top _ d (g.met.T.Tower.stands x)) c.requires.width.0 c.loop-i.-i ws codes);
     }
 
-pub overflow-sub-count : goal.overflow-sub-count
-overflow-sub-count g c = omega (arith, (row_now g (goal.at.overflow-sub-count g c).In-loop-i).wide)
+pub overflow_sub-count : goal.overflow_sub-count
+overflow_sub-count g c = omega (arith, (row_now g (goal.at.overflow_sub-count g c).In-loop-i).wide)
 
 pub loop-i-preserved : goal.loop-i-preserved
 loop-i-preserved g c =
@@ -64,11 +64,11 @@ loop-i-preserved g c =
     let f = map_list_windows (value_of (toward c.args.direction (g.T.Tower.tower c.args.tower.now).top)) w in
     let count = c.loop-i.count in
     let row = c.loop-i.row in
-    let next = c.advance-row.new.row in
+    let next = c.advance_row.new.row in
     let before = row_now g (goal.at.loop-i-preserved g c).In-loop-i in
     let n : count - 0 ≡ count = omega arith in
     let shorter : count - (w - 1) ≡ length (take (count - 0) row) + 1 - w = omega (arith, before.some, before.size, before.wide) in (
-      take-append-le (count - (w - 1)) next _ (omega (arith, c.advance-row.auto.row, before.size)) ∙ ap (λ k. take k next) shorter ∙ c.advance-row.ensures ∙
+      take-append-le (count - (w - 1)) next _ (omega (arith, c.advance_row.auto.row, before.size)) ∙ ap (λ k. take k next) shorter ∙ c.advance_row.ensures ∙
           ap f (ap (λ k. take k row) n ∙ c.loop-i.invariant.0) ∙ sym (power_more f c.loop-i.-i c.args.window.now),
       before.next,
       search (rules, overwrites),
@@ -86,5 +86,5 @@ returns g c =
     let row = c.loop-i.row in
     let all : c.loop-i.-i ≡ t = omega (arith, c.loop-i-test.false) in
     let one : 0 < c.loop-i.count = omega (arith, c.loop-i.invariant.1, ap (λ n. n * (w - 1)) all) in
-    answer-value c.args.states (option_map (iterate_local t) o) (t * (w - 1) + 1) ws (get_or row 0 0) (width_iterated a.states o w t (usable_top _ d (g.met.T.Tower.stands x)) c.requires.width.0) c.in-ok-check-window.ensures.answer
+    answer-value c.args.states (option_map (iterate_local t) o) (t * (w - 1) + 1) ws (get_or row 0 0) (width_iterated a.states o w t (usable_top _ d (g.met.T.Tower.stands x)) c.requires.width.0) c.in_ok-check_window.ensures.answer
     (sym (get_or-take c.loop-i.count row 0 0 one) ∙ ap (λ l. get_or l 0 0) (c.loop-i.invariant.0 ∙ ap (λ n. power (map_list_windows (value_of o) w) n ws) all) ∙ value_iterated o w t ws c.requires.width.0)

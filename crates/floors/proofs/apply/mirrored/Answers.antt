@@ -10,18 +10,18 @@ use Rattle.floors.proofs.apply.mirrored.Given as given
 use Rattle.floors.proofs.apply.mirrored.Goals as goal
 use Rattle.floors.proofs.apply.mirrored.Goals.{After-reverse}
 
-pub returns-in-err-check-window : goal.returns-in-err-check-window
-returns-in-err-check-window g c =
+pub returns-in_err-check_window : goal.returns-in_err-check_window
+returns-in_err-check_window g c =
     let o = toward c.args.direction (g.T.Tower.tower c.args.tower.now).top in
     let p = err_from_is_err_and c.from-residual.result c.from-residual.ensures.1 in
-    rw (p.1, p.2) (answer-refused c.args.states (option_map mirror_local o) c.args.width c.args.window.now _ (width-mirrored o c.args.width c.requires.width.0) c.in-err-check-window.ensures.answer)
+    rw (p.1, p.2) (answer-refused c.args.states (option_map mirror_local o) c.args.width c.args.window.now _ (width-mirrored o c.args.width c.requires.width.0) c.in_err-check_window.ensures.answer)
 
 -- the row holds the reversed window
 turned : (g : given.Over) (c : After-reverse g) → c.reverse.new.self ≡ reverse c.args.window.now
 turned g c =
     let ws = c.args.window.now in
-    reversed_front c.args.width ws c.row-of-row.result c.reverse.new.self (readable c.args.states c.args.width ws c.in-ok-check-window.ensures.answer).len
-    c.row-of-row.ensures c.reverse.ensures.after
+    reversed_front c.args.width ws c.row_of-row.result c.reverse.new.self (readable c.args.states c.args.width ws c.in_ok-check_window.ensures.answer).len
+    c.row_of-row.ensures c.reverse.ensures.after
 
 pub apply-requires : goal.apply-requires
 apply-requires g c =
@@ -29,12 +29,12 @@ apply-requires g c =
     let o = toward c.args.direction a in
     let w = c.args.width in
     let ws = c.args.window.now in
-    let r = readable-same c.args.states a.states w ws c.requires.states c.in-ok-check-window.ensures.answer in
+    let r = readable-same c.args.states a.states w ws c.requires.states c.in_ok-check_window.ensures.answer in
     subst (Reads a.states o) (sym (turned g (goal.at.apply-requires g c).After-reverse)) (reads a.states o w (reverse ws) c.requires.width.0 (readable-reverse a.states w ws r))
 
 pub returns : goal.returns
 returns g c =
     let o = toward c.args.direction (g.T.Tower.tower c.args.tower.now).top in
     let ws = c.args.window.now in
-    answer-value c.args.states (option_map mirror_local o) c.args.width ws c.apply.result (width-mirrored o c.args.width c.requires.width.0) c.in-ok-check-window.ensures.answer
+    answer-value c.args.states (option_map mirror_local o) c.args.width ws c.apply.result (width-mirrored o c.args.width c.requires.width.0) c.in_ok-check_window.ensures.answer
     (c.apply.ensures.value ∙ ap (value_of o) (turned g (goal.at.returns g c).After-reverse) ∙ value-mirrored o ws)

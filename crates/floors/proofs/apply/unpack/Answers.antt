@@ -14,14 +14,14 @@ block-ends : (c : In-loop-i) → c.loop-i.i * c.args.m + c.args.m ≤ 1024
 block-ends c =
     omega (arith, (multiple_more c.loop-i.i (length c.args.window.now) c.args.m c.loop-i-test.true).1, c.requires.1.1.0, c.requires.1.1.1)
 
-pub overflow-add-start : goal.overflow-add-start
-overflow-add-start c = let ends = block-ends (goal.at.overflow-add-start c).In-loop-i in search rules
+pub overflow_add-start : goal.overflow_add-start
+overflow_add-start c = let ends = block-ends (goal.at.overflow_add-start c).In-loop-i in search rules
 
-pub offset-bounds-cells-start : goal.offset-bounds-cells-start
-offset-bounds-cells-start c = let ends = block-ends (goal.at.offset-bounds-cells-start c).In-loop-i in search rules
+pub offset_bounds-cells-start : goal.offset_bounds-cells-start
+offset_bounds-cells-start c = let ends = block-ends (goal.at.offset_bounds-cells-start c).In-loop-i in search rules
 
-pub slice-bounds-write-digits-end : goal.slice-bounds-write-digits-end
-slice-bounds-write-digits-end c =
+pub slice_bounds-write_digits-end : goal.slice_bounds-write_digits-end
+slice_bounds-write_digits-end c =
     let inside = (multiple_more c.loop-i.i (length c.args.window.now) c.args.m c.loop-i-test.true).1 in
     omega (arith, c.requires.1.1.0, c.loop-i.invariant.1)
 
@@ -32,11 +32,11 @@ loop-i-preserved c =
     let ws = c.args.window.now in
     let i = c.loop-i.i in
     let cells = c.loop-i.cells in
-    let digits = c.write-digits.new.cells in
+    let digits = c.write_digits.new.cells in
     let inside = multiple_more i (length ws) m c.loop-i-test.true in
     let room : i * m + m ≤ length cells = omega (arith, inside.1, c.requires.1.1.0, c.loop-i.invariant.1) in
     let n : length (take (i * m + m - i * m) (drop (i * m) cells)) ≡ m = simp (length-take, length-drop) (omega arith) in
-    let written : digits ≡ tabulate (digit q (get_or ws i 0)) m = c.write-digits.ensures ∙ ap (tabulate (digit q (get_or ws i 0))) n in
+    let written : digits ≡ tabulate (digit q (get_or ws i 0)) m = c.write_digits.ensures ∙ ap (tabulate (digit q (get_or ws i 0))) n in
     let len : length digits ≡ m = ap length written ∙ length-tabulate (digit q (get_or ws i 0)) m in (
       take-put_mid (i * m) _ cells digits ((i + 1) * m) (omega (arith, inside.0)) (omega arith) ∙ ap₂ ◌++◌ c.loop-i.invariant.0 written ∙
           sym (unblocks_more q m i ws c.requires.1.0 c.loop-i-test.true) ∙ ap (λ k. take k (unblocks q m ws)) (sym inside.0),

@@ -5,8 +5,8 @@ use Rattle.floors.proofs.numbers.end_modulo.Goals as goal
 
 pub returns : goal.returns
 returns c =
-    let fits : SFits w32 c.rem-euclid.result = search rules in
+    let fits : SFits w32 c.rem_euclid.result = search rules in
     let small = c.requires.1 in
     let divisor : to_z w32 c.args.m ≡ pos c.args.m = omega (arith, ints) in
-    ap nat_abs (to_z-of_z w32 c.rem-euclid.result fits ∙
-    remainder_is c.args.z (to_z w32 (of_z w32 c.args.z)) (to_z w32 c.args.m) c.rem-euclid.result c.args.m c.rem-euclid.ensures.value (to_z-of_z w32 c.args.z c.ranges.z) divisor)
+    ap nat_abs (to_z-of_z w32 c.rem_euclid.result fits ∙
+    remainder_is c.args.z (to_z w32 (of_z w32 c.args.z)) (to_z w32 c.args.m) c.rem_euclid.result c.args.m c.rem_euclid.ensures.value (to_z-of_z w32 c.args.z c.ranges.z) divisor)

@@ -2,5 +2,5 @@ use Rattle.std.proofs.Common.{◌∙◌}
 use Rattle.floors.specs.ActingLemmas.{packed_not}
 use Rattle.floors.proofs.numbers.pack.Goals as goal
 
-pub returns-in-err-states : goal.returns-in-err-states
-returns-in-err-states c = c.from-residual.ensures ∙ packed_not c.args.m c.args.x c.in-err-states.ensures
+pub returns-in_err-states : goal.returns-in_err-states
+returns-in_err-states c = c.from-residual.ensures ∙ packed_not c.args.m c.args.x c.in_err-states.ensures

@@ -3,8 +3,8 @@ use native.Mathlib.Nat.{pow-zero}
 use Rattle.rules.specs.TablesLemmas.{pow_more, within_not, within_is}
 use Rattle.floors.proofs.numbers.power_within.Goals as goal
 
-pub overflow-mul-power : goal.overflow-mul-power
-overflow-mul-power c =
+pub overflow_mul-power : goal.overflow_mul-power
+overflow_mul-power c =
     let base : c.from-power.result ≤ 16777216 = omega arith in
     let most : c.loop-i.power * c.from-power.result ≤ 16777216 * 16777216 = mul-le-mul c.loop-i.invariant.1 base in
     omega arith

@@ -7,11 +7,11 @@ use Rattle.floors.proofs.numbers.shift_drift.Goals as goal
 room : (drift s : ℤ) (block : ℕ) → nat_abs drift ≤ 16777216 → nat_abs s ≤ 128 → block ≤ 65536 → nat_abs drift + nat_abs (s *ℤ pos block) < 2 ^ 31
 room drift s block h l m = omega (arith, product_small s block 128 65536 l m)
 
-pub overflow-mul-result : goal.overflow-mul-result
-overflow-mul-result c = product_fits c.args.s c.args.block 128 65536 c.requires.1.0 c.requires.1.1 (lit< tt) (lit< tt) c.ranges.s
+pub overflow_mul-result : goal.overflow_mul-result
+overflow_mul-result c = product_fits c.args.s c.args.block 128 65536 c.requires.1.0 c.requires.1.1 (lit< tt) (lit< tt) c.ranges.s
 
-pub overflow-add-result : goal.overflow-add-result
-overflow-add-result c =
+pub overflow_add-result : goal.overflow_add-result
+overflow_add-result c =
     sum_fits c.args.drift (c.args.s *ℤ pos c.args.block) _ _ (to_z-of_z w32 c.args.drift c.ranges.drift)
     (product_is c.args.s c.args.block 128 65536 c.requires.1.0 c.requires.1.1 (lit< tt) (lit< tt) c.ranges.s)
     (room c.args.drift c.args.s c.args.block c.requires.0 c.requires.1.0 c.requires.1.1)

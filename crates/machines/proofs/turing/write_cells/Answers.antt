@@ -15,8 +15,8 @@ loop-i-preserved c =
       | then-i-position w ↦ w.head-is ∙ ap (λ b. then_some b c.args.state) (sym (eq-eqb i c.args.position w.if-i-position.true))
       | else-i-position w ↦ w.head-is ∙ ap (λ b. then_some b c.args.state) (sym (ne_eqb i c.args.position w.if-i-position.false))
     ] in
-    one_more (drawn_cell c.args.symbols c.args.tape.now c.args.position c.args.state) c.loop-i.cells i c.code-with.result (omega (arith, c.loop-i.auto.cells, c.requires.sizes.1.1)) c.loop-i.invariant
-    (c.code-with.ensures ∙ ap (code_of c.args.symbols (get_or c.args.tape.now i 0)) head)
+    one_more (drawn_cell c.args.symbols c.args.tape.now c.args.position c.args.state) c.loop-i.cells i c.code_with.result (omega (arith, c.loop-i.auto.cells, c.requires.sizes.1.1)) c.loop-i.invariant
+    (c.code_with.ensures ∙ ap (code_of c.args.symbols (get_or c.args.tape.now i 0)) head)
 
 pub returns : goal.returns
 returns c =

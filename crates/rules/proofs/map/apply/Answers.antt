@@ -13,7 +13,7 @@ returns g c =
     let o = toward c.args.direction a in
     let ws = c.args.window.now in
     let e : c.match-direction.answer ≡ answer a.states o ws = elim c.match-direction.branch [
-      | in-Forward w ↦ w.answer-is ∙ w.next_answer.ensures.answer ∙ ap (λ d. answer a.states (toward d a) ws) (sym w.in-Forward.is)
-      | in-Backward w ↦ w.answer-is ∙ w.previous_answer.ensures.answer ∙ ap (λ d. answer a.states (toward d a) ws) (sym w.in-Backward.is)
+      | in-Forward w ↦ w.answer-is ∙ w.next-answer.ensures.answer ∙ ap (λ d. answer a.states (toward d a) ws) (sym w.in-Forward.is)
+      | in-Backward w ↦ w.answer-is ∙ w.previous-answer.ensures.answer ∙ ap (λ d. answer a.states (toward d a) ws) (sym w.in-Backward.is)
     ] in
-    c.unwrap-or.ensures ∙ ap (λ r. result_unwrap_or r 0) (e ∙ answer-reads a.states o ws c.requires)
+    c.unwrap_or.ensures ∙ ap (λ r. result_unwrap_or r 0) (e ∙ answer-reads a.states o ws c.requires)

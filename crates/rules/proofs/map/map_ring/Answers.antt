@@ -9,12 +9,12 @@ use Rattle.rules.specs.Maps.{ring_fault, map_fault, outcome, image, written_over
 use Rattle.rules.proofs.Maps.{unplaced, map_fault-some, placed, mappable, step-laws}
 use Rattle.rules.proofs.map.map_ring.Goals as goal
 
-pub returns-in-default : goal.returns-in-default
-returns-in-default g c =
+pub returns-in_default : goal.returns-in_default
+returns-in_default g c =
     let a = g.R.Rule.meaning c.args.rule.now in
     let o = toward c.args.direction a in
     let buffer = c.args.buffer.now in
-    let f = unplaced a.states o c.args.ring.now (length buffer) c.in-default.ensures in
+    let f = unplaced a.states o c.args.ring.now (length buffer) c.in_default.ensures in
     record {
       answer = ap outcome (sym f);
       buffer = ap (λ r. unless_refused r (written_over (image o c.args.ring.now) buffer) buffer) (sym f);
@@ -37,18 +37,18 @@ returns-in-Some-refusal g c =
       steps = after_add a (g.met.R.Rule.lawful c.args.rule.now).sound;
     }
 
-pub write-image-requires : goal.write-image-requires
-write-image-requires g c =
+pub write_image-requires : goal.write_image-requires
+write_image-requires g c =
     let a = g.R.Rule.meaning c.args.rule.now in
     let o = toward c.args.direction a in
     let ring = c.args.ring.now in
     let f : SFits w32 c.in-Some.lo = search rules in
     let k : SFits w32 c.in-Some.hi = search rules in
-    let start : c.place-of.result ≡ floor_mod c.in-Some.lo (length ring) = c.place-of.ensures ∙ ap (λ z. floor_mod z (length ring)) (to_z-of_z w32 c.in-Some.lo f) in
-    let wide : c.interval-width.result ≡ span c.in-Some.lo c.in-Some.hi = c.interval-width.ensures ∙ ap₂ span (to_z-of_z w32 c.in-Some.lo f) (to_z-of_z w32 c.in-Some.hi k) in
-    let m = mappable a.states ring (length c.args.buffer.now) (c.in-default-refusal.ensures ∙ ap (λ s. ring_fault s.states ring (length c.args.buffer.now)) c.shape.ensures.answer) in
+    let start : c.place_of.result ≡ floor_mod c.in-Some.lo (length ring) = c.place_of.ensures ∙ ap (λ z. floor_mod z (length ring)) (to_z-of_z w32 c.in-Some.lo f) in
+    let wide : c.interval_width.result ≡ span c.in-Some.lo c.in-Some.hi = c.interval_width.ensures ∙ ap₂ span (to_z-of_z w32 c.in-Some.lo f) (to_z-of_z w32 c.in-Some.hi k) in
+    let m = mappable a.states ring (length c.args.buffer.now) (c.in_default-refusal.ensures ∙ ap (λ s. ring_fault s.states ring (length c.args.buffer.now)) c.shape.ensures.answer) in
     record {
-      interval = placed o (length ring) c.in-Some.lo c.in-Some.hi c.place-of.result c.interval-width.result c.in-Some.ensures start wide;
+      interval = placed o (length ring) c.in-Some.lo c.in-Some.hi c.place_of.result c.interval_width.result c.in-Some.ensures start wide;
       sizes = (m.some, (m.few, m.fits));
       codes = m.codes;
     }
@@ -60,10 +60,10 @@ returns g c =
     let ring = c.args.ring.now in
     let buffer = c.args.buffer.now in
     let f : None ≡ map_fault a.states o ring (length buffer) =
-    c.in-default-refusal.ensures ∙ ap (λ s. ring_fault s.states ring (length buffer)) c.shape.ensures.answer ∙ sym (map_fault-some a.states o ring (length buffer) c.in-Some.lo c.in-Some.hi c.in-Some.ensures) in
+    c.in_default-refusal.ensures ∙ ap (λ s. ring_fault s.states ring (length buffer)) c.shape.ensures.answer ∙ sym (map_fault-some a.states o ring (length buffer) c.in-Some.lo c.in-Some.hi c.in-Some.ensures) in
     record {
       answer = ap outcome f;
-      buffer = c.write-image.ensures ∙ ap (λ r. unless_refused r (written_over (image o ring) buffer) buffer) f;
+      buffer = c.write_image.ensures ∙ ap (λ r. unless_refused r (written_over (image o ring) buffer) buffer) f;
       law = step-laws c.args.direction a;
       steps = after_add a (g.met.R.Rule.lawful c.args.rule.now).sound;
     }

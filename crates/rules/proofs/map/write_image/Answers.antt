@@ -16,8 +16,8 @@ unroll-requires g c =
     let narrow = placed_narrow a.states n (toward d a) c.args.start c.args.width (usable d a (g.met.R.Rule.lawful c.args.rule.now)) c.requires.interval in
     (placed_inside n (toward d a) c.args.start c.args.width c.requires.sizes.0 c.requires.interval, omega arith)
 
-pub apply-all-requires : goal.apply-all-requires
-apply-all-requires g c =
+pub apply_all-requires : goal.apply_all-requires
+apply_all-requires g c =
     let a = g.R.Rule.meaning c.args.rule.now in
     let d = c.args.direction in
     let ring = c.args.ring.now in
@@ -40,7 +40,7 @@ returns g c =
     let z : n - 0 ≡ n = omega arith in
     let len : length (take (n - 0) c.args.buffer.now) ≡ n = ap (λ k. length (take k c.args.buffer.now)) z ∙ length-take-le n c.args.buffer.now c.requires.sizes.1.1 in
     let r : Ring a.states ring = record { some = c.requires.sizes.0; codes = c.requires.codes } in
-    let written : c.apply-all.new.buffer ≡ image (toward d a) ring =
-    c.apply-all.ensures ∙ ap (tabulate (λ i. value_of (toward d a) (part c.unroll.new.cells i c.args.width))) len ∙
+    let written : c.apply_all.new.buffer ≡ image (toward d a) ring =
+    c.apply_all.ensures ∙ ap (tabulate (λ i. value_of (toward d a) (part c.unroll.new.cells i c.args.width))) len ∙
     unrolled_image a.states c.args.start c.args.width ring c.unroll.new.cells r c.unroll.ensures (toward d a) c.requires.interval in
     ap₂ ◌++◌ written (ap (λ k. drop k c.args.buffer.now) (z ∙ sym (length-image (toward d a) ring)))

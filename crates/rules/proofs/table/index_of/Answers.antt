@@ -4,16 +4,16 @@ use Rattle.rules.specs.Tables.{entry_index}
 use Rattle.rules.specs.TablesLemmas.{entry_index_more, entry_index_small}
 use Rattle.rules.proofs.table.index_of.Goals as goal
 
-pub overflow-mul-index : goal.overflow-mul-index
-overflow-mul-index c =
+pub overflow_mul-index : goal.overflow_mul-index
+overflow_mul-index c =
     let ws = c.args.window.now in
     let i = c.loop-i.i in
     let next = entry_index_more c.args.states ws i c.loop-i.index c.loop-i-test.true c.loop-i.invariant in
     let small = entry_index_small c.args.states ws (i + 1) 1024 c.requires.1.0 c.requires.0 c.requires.1.1 (omega arith) in
     omega arith
 
-pub overflow-add-index : goal.overflow-add-index
-overflow-add-index c =
+pub overflow_add-index : goal.overflow_add-index
+overflow_add-index c =
     let ws = c.args.window.now in
     let i = c.loop-i.i in
     let next = entry_index_more c.args.states ws i c.loop-i.index c.loop-i-test.true c.loop-i.invariant in

@@ -4,8 +4,8 @@ use Rattle.runs.specs.declared.fault.RunFault.TheVariants.{Tower}
 use Rattle.runs.proofs.Making.{encode-refused, encode-accepted, encode_unchanged, encode-written, fitting-made, cells-few}
 use Rattle.runs.proofs.calls.begin.Goals as goal
 
-pub invariant-of-result : goal.invariant-of-result
-invariant-of-result g c =
+pub invariant_of-result : goal.invariant_of-result
+invariant_of-result g c =
     let t = g.T.Tower.tower c.args.tower in
     let s = g.met.T.Tower.stands c.args.tower in
     let ring = c.args.ring.now in

@@ -9,6 +9,6 @@ returns g c =
     let a = (g.T.Tower.tower c.args.top.now.0).top in
     let len : length (take c.args.cells c.args.from.now) ≡ c.args.cells = length-take-le c.args.cells c.args.from.now c.requires.sizes.1.1.0 in
     let part : c.args.cells - 0 ≡ c.args.cells = omega arith in
-    c.map-ring.ensures.buffer
+    c.map_ring.ensures.buffer
     ∙ ap (λ n. map_buffer c.args.direction a (take n c.args.from.now) c.args.to.now) part
     ∙ map_buffer_good c.args.direction a (take c.args.cells c.args.from.now) c.args.to.now c.requires.steps (omega (arith, len)) (omega (arith, len)) (omega (arith, len)) c.requires.codes

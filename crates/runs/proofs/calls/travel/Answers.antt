@@ -1,7 +1,7 @@
 use Rattle.std.proofs.Common.{◌≡◌, ◌≤◌, ◌+ℤ◌, nat_abs, None, sym, refl, ap, ◌∙◌, arith, w32, w64, SFits, to_z, of_z, rules}
 use Rattle.std.proofs.lemmas.Int.{to_z-of_z, ints}
 use Rattle.runs.specs.States.{toward_steps, moved}
-use Rattle.rules.specs.Maps.{outcome, unless_refused}
+use Rattle.runs.specs.Outcomes.{outcome, unless_refused}
 use Rattle.runs.specs.Calls.{move_fault}
 use Rattle.runs.specs.Views.{state_of}
 use Rattle.runs.proofs.Refusals.{movable}
@@ -14,7 +14,7 @@ returns g c =
     let d = c.args.direction in
     let n = c.args.count in
     let s = state_of c.args.run.now c.args.a.now c.args.b.now in
-    let none : None ≡ move_fault d a n s = c.in-default.ensures in
+    let none : None ≡ move_fault d a n s = c.in_default.ensures in
     let m = movable d a n s (sym none) in
     let f : SFits w32 c.args.run.now.steps = search rules in
     let goal : c.goal.result ≡ s.steps +ℤ toward_steps d n = c.goal.ensures ∙ ap (λ z. z +ℤ toward_steps d n) (to_z-of_z w32 c.args.run.now.steps f) in

@@ -13,17 +13,17 @@ use Rattle.runs.proofs.Simulating.{usable_fault, usable_le, third_room, simulate
 use Rattle.runs.proofs.simulation.simulate.Goals as goal
 
 pub begin-requires : goal.begin-requires
-begin-requires g c = omega (arith, c.usable-room-room.ensures, (usable_le (length c.args.ring.now) (length c.args.a.now) (length c.args.b.now) (length c.args.third.now)).0)
+begin-requires g c = omega (arith, c.usable_room-room.ensures, (usable_le (length c.args.ring.now) (length c.args.a.now) (length c.args.b.now) (length c.args.third.now)).0)
 
-pub returns-in-err-run : goal.returns-in-err-run
-returns-in-err-run g c =
+pub returns-in_err-run : goal.returns-in_err-run
+returns-in_err-run g c =
     let t = g.T.Tower.tower c.args.tower in
     let ring = c.args.ring.now in
     let a = c.args.a.now in
     let b = c.args.b.now in
     let third = c.args.third.now in
-    let room = c.usable-room-room.ensures in
-    let refused = c.in-err-run.ensures in
+    let room = c.usable_room-room.ensures in
+    let refused = c.in_err-run.ensures in
     let p = err_from_is_err_and c.from-residual.result c.from-residual.ensures.1 in
     let fault = sym (usable_fault t ring (length a) (length b) (length third)) ∙ ap (λ n. option_map Tower (encode_fault t.bottom.states t.block ring n)) (sym room) ∙ refused.0 in
     record {
@@ -42,9 +42,9 @@ returns g c =
     let b = c.args.b.now in
     let third = c.args.third.now in
     let room = usable_room (length ring) (length a) (length b) (length third) in
-    let begun = c.in-ok-run.ensures in
-    let run = c.in-ok-run.run' in
-    let unrefused : encode_fault t.bottom.states t.block ring room ≡ None = ap (encode_fault t.bottom.states t.block ring) (sym c.usable-room-room.ensures) ∙ begun.0 in
+    let begun = c.in_ok-run.ensures in
+    let run = c.in_ok-run.run' in
+    let unrefused : encode_fault t.bottom.states t.block ring room ≡ None = ap (encode_fault t.bottom.states t.block ring) (sym c.usable_room-room.ensures) ∙ begun.0 in
     let same : g.T.Tower.tower run.top.0 ≡ t = ap g.T.Tower.tower begun.1 in
     let first = state_of run c.begin.new.a b in
     let s = state_of c.perform-refused.new.self c.perform-refused.new.a c.perform-refused.new.b in

@@ -1,8 +1,8 @@
 use Rattle.std.proofs.Common.{◌≡◌, ℕ, ◌-◌, ◌*◌, ◌≤◌, ◌++◌, length, take, drop, Some, None, sym, ap, ◌∙◌, ap₂, arith}
 use Rattle.std.proofs.lemmas.List.{length-take-le}
 use Rattle.rings.specs.Ring.{Ring}
-use Rattle.rules.specs.Maps.{outcome, written_over, unless_refused}
-use Rattle.towers.specs.Encodings.{decode_fault}
+use Rattle.rules.specs.Maps.{written_over}
+use Rattle.towers.specs.Encodings.{outcome, unless_refused, decode_fault}
 use Rattle.towers.proofs.Encodings.{simulates}
 use Rattle.towers.proofs.Calls.{decodable}
 use Rattle.towers.proofs.encoding.decode.Goals as goal
@@ -16,13 +16,13 @@ returns-in-Some g c =
     let s = g.met.T.Tower.stands c.args.tower.now in
     record { answer = ap outcome f; buffer = ap (λ r. unless_refused r (written_over (t.decode ring) buffer) buffer) f; laws = s; simulates = simulates t s.laws }
 
-pub write-decoded-requires : goal.write-decoded-requires
-write-decoded-requires g c =
+pub write_decoded-requires : goal.write_decoded-requires
+write_decoded-requires g c =
     let t = g.T.Tower.tower c.args.tower.now in
     let ring = c.args.ring.now in
     let buffer = c.args.buffer.now in
     let x = c.numbers-numbers.ensures.answer in
-    let f : None ≡ decode_fault t.top.states t.block ring (length buffer) = c.in-default.ensures ∙ ap (λ x. decode_fault x.states x.block ring (length buffer)) x in
+    let f : None ≡ decode_fault t.top.states t.block ring (length buffer) = c.in_default.ensures ∙ ap (λ x. decode_fault x.states x.block ring (length buffer)) x in
     let m = decodable t.top.states t.block ring (length buffer) f in
     let size : length ring * c.numbers-numbers.result.block - 0 ≡ length ring * t.block = omega (arith, ap (λ x. length ring * x.block) x) in
     let len : length (take (length ring * c.numbers-numbers.result.block - 0) buffer) ≡ length ring * t.block = ap (λ k. length (take k buffer)) size ∙ length-take-le (length ring * t.block) buffer m.accepts.fits in
@@ -35,13 +35,13 @@ returns g c =
     let ring = c.args.ring.now in
     let buffer = c.args.buffer.now in
     let x = c.numbers-numbers.ensures.answer in
-    let f : None ≡ decode_fault t.top.states t.block ring (length buffer) = c.in-default.ensures ∙ ap (λ x. decode_fault x.states x.block ring (length buffer)) x in
+    let f : None ≡ decode_fault t.top.states t.block ring (length buffer) = c.in_default.ensures ∙ ap (λ x. decode_fault x.states x.block ring (length buffer)) x in
     let m = decodable t.top.states t.block ring (length buffer) f in
     let good : Ring t.top.states ring = record { some = m.some; codes = m.accepts.codes } in
     let len : length ring * c.numbers-numbers.result.block - 0 ≡ length (t.decode ring) = omega (arith, ap (λ x. length ring * x.block) x, (s.laws.fitting_decode ring good).size) in
     record {
       answer = ap outcome f;
-      buffer = ap₂ ◌++◌ c.write-decoded.ensures (ap (λ k. drop k buffer) len) ∙ ap (λ r. unless_refused r (written_over (t.decode ring) buffer) buffer) f;
+      buffer = ap₂ ◌++◌ c.write_decoded.ensures (ap (λ k. drop k buffer) len) ∙ ap (λ r. unless_refused r (written_over (t.decode ring) buffer) buffer) f;
       laws = s;
       simulates = simulates t s.laws;
     }

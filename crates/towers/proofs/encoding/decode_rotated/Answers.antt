@@ -3,8 +3,8 @@ use Rattle.std.proofs.lemmas.List.{length-take-le}
 use Rattle.std.proofs.lemmas.Int.{to_z-of_z}
 use Rattle.rings.specs.Ring.{first_stray, rotate}
 use Rattle.rings.proofs.Ring.{length-rotate}
-use Rattle.rules.specs.Maps.{outcome, written_over, unless_refused}
-use Rattle.towers.specs.Encodings.{stray_or_short, rotated_fault}
+use Rattle.rules.specs.Maps.{written_over}
+use Rattle.towers.specs.Encodings.{outcome, unless_refused, stray_or_short, rotated_fault}
 use Rattle.towers.proofs.Calls.{Rotatable, rotated_fault_else, rotatable}
 use Rattle.towers.proofs.encoding.decode_rotated.Given as given
 use Rattle.towers.proofs.encoding.decode_rotated.Goals as goal
@@ -18,16 +18,16 @@ returns-in-Some g c =
     let buffer = c.args.buffer.now in
     let f : Some c.in-Some.fault ≡ rotated_fault t.top.states t.block ring (length buffer) =
     c.in-Some.ensures ∙ ap (λ x. stray_or_short (first_stray x.states ring) (length ring) (length buffer / x.block)) c.numbers-numbers.ensures.answer
-    ∙ rotated_fault_else t.top.states t.block ring (length buffer) s.laws.block (sym c.is-empty.ensures ∙ c.if-is-empty.false) in
+    ∙ rotated_fault_else t.top.states t.block ring (length buffer) s.laws.block (sym c.is_empty.ensures ∙ c.if-is_empty.false) in
     record { answer = ap outcome f; buffer = ap (λ r. unless_refused r (written_over (rotate c.args.rotation (t.decode ring)) buffer) buffer) f }
 
 -- what is known once nothing refuses
 module _ (g : given.Over) (c : In-default g) where
   unrefused : None ≡ stray_or_short (first_stray (g.T.Tower.tower c.args.tower.now).top.states c.args.ring.now) (length c.args.ring.now) (length c.args.buffer.now / (g.T.Tower.tower c.args.tower.now).block)
-  unrefused = c.in-default.ensures ∙ ap (λ x. stray_or_short (first_stray x.states c.args.ring.now) (length c.args.ring.now) (length c.args.buffer.now / x.block)) c.numbers-numbers.ensures.answer
+  unrefused = c.in_default.ensures ∙ ap (λ x. stray_or_short (first_stray x.states c.args.ring.now) (length c.args.ring.now) (length c.args.buffer.now / x.block)) c.numbers-numbers.ensures.answer
 
   some : eqb (length c.args.ring.now) 0 ≡ false
-  some = sym c.is-empty.ensures ∙ c.if-is-empty.false
+  some = sym c.is_empty.ensures ∙ c.if-is_empty.false
 
   good : Rotatable (g.T.Tower.tower c.args.tower.now).top.states (g.T.Tower.tower c.args.tower.now).block c.args.ring.now (length c.args.buffer.now)
   good = rotatable _ _ c.args.ring.now (length c.args.buffer.now) (g.met.T.Tower.stands c.args.tower.now).laws.block some unrefused
@@ -38,18 +38,18 @@ module _ (g : given.Over) (c : In-default g) where
   fits : length c.args.ring.now * c.numbers-numbers.result.block ≤ length c.args.buffer.now
   fits = omega (arith, size, good.fits)
 
-pub overflow-mul-cells : goal.overflow-mul-cells
-overflow-mul-cells g c = let h = fits g (goal.at.overflow-mul-cells g c).In-default in search rules
+pub overflow_mul-cells : goal.overflow_mul-cells
+overflow_mul-cells g c = let h = fits g (goal.at.overflow_mul-cells g c).In-default in search rules
 
-pub slice-bounds-cells-end : goal.slice-bounds-cells-end
-slice-bounds-cells-end g c = let h = fits g (goal.at.slice-bounds-cells-end g c).In-default in search rules
+pub slice_bounds-cells-end : goal.slice_bounds-cells-end
+slice_bounds-cells-end g c = let h = fits g (goal.at.slice_bounds-cells-end g c).In-default in search rules
 
-pub write-decoded-requires : goal.write-decoded-requires
-write-decoded-requires g c =
+pub write_decoded-requires : goal.write_decoded-requires
+write_decoded-requires g c =
     let t = g.T.Tower.tower c.args.tower.now in
     let ring = c.args.ring.now in
     let buffer = c.args.buffer.now in
-    let at = (goal.at.write-decoded-requires g c).In-default in
+    let at = (goal.at.write_decoded-requires g c).In-default in
     let same : length ring * c.numbers-numbers.result.block - 0 ≡ length ring * t.block = omega (arith, size g at) in
     record {
       states = ap (λ x. x.bottom) c.numbers-numbers.ensures.answer;
@@ -57,10 +57,10 @@ write-decoded-requires g c =
       size = ap (λ k. length (take k buffer)) same ∙ length-take-le (length ring * t.block) buffer (good g at).ranges;
     }
 
-pub rotate-cells-requires : goal.rotate-cells-requires
-rotate-cells-requires g c =
-    let at = (goal.at.rotate-cells-requires g c).In-default in
-    omega (arith, ap length c.write-decoded.ensures, ((g.met.T.Tower.stands c.args.tower.now).laws.fitting_decode c.args.ring.now (good g at).ring).ring.some)
+pub rotate_cells-requires : goal.rotate_cells-requires
+rotate_cells-requires g c =
+    let at = (goal.at.rotate_cells-requires g c).In-default in
+    omega (arith, ap length c.write_decoded.ensures, ((g.met.T.Tower.stands c.args.tower.now).laws.fitting_decode c.args.ring.now (good g at).ring).ring.some)
 
 pub returns : goal.returns
 returns g c =
@@ -71,7 +71,7 @@ returns g c =
     let z = c.args.rotation in
     let at = (goal.at.returns g c).In-default in
     let f : None ≡ rotated_fault t.top.states t.block ring (length buffer) = unrefused g at ∙ rotated_fault_else t.top.states t.block ring (length buffer) s.laws.block (some g at) in
-    let turned : c.rotate-cells.new.ring ≡ rotate z (t.decode ring) = c.rotate-cells.ensures ∙ ap₂ rotate (to_z-of_z w64 z c.ranges.rotation) c.write-decoded.ensures in
+    let turned : c.rotate_cells.new.ring ≡ rotate z (t.decode ring) = c.rotate_cells.ensures ∙ ap₂ rotate (to_z-of_z w64 z c.ranges.rotation) c.write_decoded.ensures in
     let len : length ring * c.numbers-numbers.result.block - 0 ≡ length (rotate z (t.decode ring)) = omega (arith, size g at, (s.laws.fitting_decode ring (good g at).ring).size, length-rotate z (t.decode ring)) in
     record {
       answer = ap outcome f;

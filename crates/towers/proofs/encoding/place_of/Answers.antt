@@ -7,10 +7,10 @@ use Rattle.towers.proofs.encoding.place_of.Goals as goal
 
 pub returns : goal.returns
 returns c =
-    let f : SFits w128 c.rem-euclid.result = search rules in
+    let f : SFits w128 c.rem_euclid.result = search rules in
     let long : SFits w128 c.args.rotation = search rules in
     let small : c.args.n < 2 ^ 127 = search rules in
     let rotation : to_z w128 (of_z w128 (to_z w64 (of_z w64 c.args.rotation))) ≡ c.args.rotation = ap (λ z. to_z w128 (of_z w128 z)) (to_z-of_z w64 c.args.rotation c.ranges.rotation) ∙ to_z-of_z w128 c.args.rotation long in
-    ap nat_abs (to_z-of_z w128 c.rem-euclid.result f) ∙
-    ap nat_abs (c.rem-euclid.ensures.value ∙ ap₂ int_rem_euclid rotation (to_z_pos w128 c.args.n small)) ∙
+    ap nat_abs (to_z-of_z w128 c.rem_euclid.result f) ∙
+    ap nat_abs (c.rem_euclid.ensures.value ∙ ap₂ int_rem_euclid rotation (to_z_pos w128 c.args.n small)) ∙
     rem_euclid_floor_mod c.args.rotation c.args.n

@@ -3,8 +3,8 @@ use native.Mathlib.Nat.{pow-zero, pow-le-pow_right}
 use Rattle.rules.specs.TablesLemmas.{pow_more}
 use Rattle.towers.proofs.encoding.power.Goals as goal
 
-pub overflow-mul-power : goal.overflow-mul-power
-overflow-mul-power c =
+pub overflow_mul-power : goal.overflow_mul-power
+overflow_mul-power c =
     let more : c.loop-i.power * c.args.base ≡ c.args.base ^ (c.loop-i.-i + 1) = ap (λ n. n * c.args.base) c.loop-i.invariant ∙ sym (pow_more c.args.base c.loop-i.-i) in
     let most : c.args.base ^ (c.loop-i.-i + 1) ≤ c.args.base ^ c.args.exponent = pow-le-pow_right c.requires.0 (omega arith) in
     omega (arith, more, most, c.requires.1)

@@ -6,7 +6,7 @@ use Rattle.rules.proofs.Maps.{one_more}
 use Rattle.towers.proofs.Encodings.{slice_index-decode}
 use Rattle.towers.proofs.Calls.{place_in, place_is_told}
 use Rattle.towers.proofs.encoding.write_decoded.Goals as goal
-use Rattle.towers.proofs.encoding.write_decoded.Goals.{in-Ok, in-default}
+use Rattle.towers.proofs.encoding.write_decoded.Goals.{in-Ok, in_default}
 
 pub power-requires : goal.power-requires
 power-requires g c =
@@ -14,8 +14,8 @@ power-requires g c =
     let p = place_in t (g.met.T.Tower.stands c.args.tower.now) (length c.args.ring.now) (length c.args.cells.now) c.loop-j.j c.args.states c.requires.good.some c.requires.size c.loop-j-test.true c.requires.states c.in-Ok.place c.in-Ok.ensures.answer in
     (p.some, p.power)
 
-pub nonzero-div-cells : goal.nonzero-div-cells
-nonzero-div-cells g c =
+pub nonzero_div-cells : goal.nonzero_div-cells
+nonzero_div-cells g c =
     let t = g.T.Tower.tower c.args.tower.now in
     let p = place_in t (g.met.T.Tower.stands c.args.tower.now) (length c.args.ring.now) (length c.args.cells.now) c.loop-j.j c.args.states c.requires.good.some c.requires.size c.loop-j-test.true c.requires.states c.in-Ok.place c.in-Ok.ensures.answer in
     omega (arith, c.power.ensures, one-le-pow c.in-Ok.place.digit c.args.states p.some)
@@ -35,7 +35,7 @@ loop-j-preserved g c =
           ∙ ap₂ (λ x y. digit t.bottom.states (get_or ring x 0) y) p.cell_is p.digit_is
           ∙ sym (slice_index-decode t s.laws ring c.requires.good j n c.requires.size c.loop-j-test.true) in
           λ k h. ap (λ l. get_or l k 0) w.cells-is ∙ one_more (λ i. get_or (t.decode ring) i 0) c.loop-j.cells j _ (omega (arith, c.loop-j.auto.cells, c.loop-j-test.true)) c.loop-j.invariant value k h
-      | in-default w ↦ absurd (place_is_told t s (length ring) n j c.args.states c.requires.good.some c.requires.size c.loop-j-test.true c.requires.states _ w.in-default.ensures.answer)
+      | in_default w ↦ absurd (place_is_told t s (length ring) n j c.args.states c.requires.good.some c.requires.size c.loop-j-test.true c.requires.states _ w.in_default.ensures.answer)
     ]
 
 pub returns : goal.returns

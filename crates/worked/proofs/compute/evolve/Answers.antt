@@ -11,7 +11,7 @@ use Rattle.worked.proofs.compute.evolve.Goals as goal
 
 pub loop-step-init : goal.loop-step-init
 unfolding power
-loop-step-init g c = (c.in-ok-current.ensures.items, ap length c.in-ok-next.ensures.items)
+loop-step-init g c = (c.in_ok-current.ensures.items, ap length c.in_ok-next.ensures.items)
 
 pub loop-step-preserved : goal.loop-step-preserved
 unfolding power
@@ -22,13 +22,13 @@ loop-step-preserved g c =
     let ring = c.args.ring.now in
     let i = c.loop-step.-step in
     let now = vec_items c.loop-step.current in
-    let then = c.map-ring.new.buffer in
+    let then = c.map_ring.new.buffer in
     let from = c.deref.result.now in
     let into = c.deref-mut.result.now in
     let size : length now ≡ length ring = ap length c.loop-step.invariant.0 ∙ length-power-image o i ring in
     let long : length into ≡ length from = ap length c.deref-mut.ensures.value ∙ c.loop-step.invariant.1 ∙ sym size ∙ ap length (sym c.deref.ensures.value) in
-    let made : then ≡ image o now = c.map-ring.ensures.buffer ∙ mapped_whole d a from into c.in-ok-map-ring.ensures.answer long ∙ ap (image o) c.deref.ensures.value in
-    let filled : vec_items c.swap.new.x ≡ then = ap vec_items c.swap.ensures.x-after ∙ with_items_is c.loop-step.next then (omega (arith, c.map-ring.auto.buffer, c.deref-mut.ensures.len)) in (
+    let made : then ≡ image o now = c.map_ring.ensures.buffer ∙ mapped_whole d a from into c.in_ok-map_ring.ensures.answer long ∙ ap (image o) c.deref.ensures.value in
+    let filled : vec_items c.swap.new.x ≡ then = ap vec_items c.swap.ensures.x-after ∙ with_items_is c.loop-step.next then (omega (arith, c.map_ring.auto.buffer, c.deref-mut.ensures.len)) in (
       filled ∙ made ∙ ap (image o) c.loop-step.invariant.0 ∙ sym (power_out (image o) i ring) ∙ ap (λ n. power (image o) n ring) (sym (add-one i)),
       ap (λ v. length (vec_items v)) c.swap.ensures.y-after ∙ size,
     )

@@ -9,10 +9,10 @@ returns g c =
     let t = g.T.Tower.tower c.args.tower.now.0 in
     let s = g.met.T.Tower.stands c.args.tower.now.0 in
     let ring = c.args.ring.now in
-    let code = c.in-ok-code.ensures in
-    let top : vec_items c.in-ok-top.top ≡ after t.top (pos c.args.steps) (t.encode ring) =
-    c.in-ok-top.ensures ∙ ap₂ (λ n d. after t.top (pos n) d) c.from.ensures (c.deref.ensures.value ∙ code.0) in
+    let code = c.in_ok-code.ensures in
+    let top : vec_items c.in_ok-top.top ≡ after t.top (pos c.args.steps) (t.encode ring) =
+    c.in_ok-top.ensures ∙ ap₂ (λ n d. after t.top (pos n) d) c.from.ensures (c.deref.ensures.value ∙ code.0) in
     record {
       top = top;
-      told = c.in-ok-told.ensures ∙ ap (read t (pos c.args.steps)) (c.deref-2.ensures.value ∙ top) ∙ (simulates t s.laws).reading (pos c.args.steps) (vec_len c.in-ok-code.code) ring code.1 tt;
+      told = c.in_ok-told.ensures ∙ ap (read t (pos c.args.steps)) (c.deref-2.ensures.value ∙ top) ∙ (simulates t s.laws).reading (pos c.args.steps) (vec_len c.in_ok-code.code) ring code.1 tt;
     }

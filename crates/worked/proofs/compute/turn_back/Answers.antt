@@ -40,11 +40,11 @@ module _ (x y z : ℤ) (n : ℕ) (e : x ≡ to_z w32 (of_z w32 z)) (f : y ≡ po
   pub negative_is : to_z w64 (of_z w64 (pos 0 -ℤ to_z w64 (of_z w64 (to_z w64 (of_z w64 x) *ℤ to_z w64 (of_z w64 y))))) ≡ neg_ℤ (z *ℤ pos n)
   negative_is = to_z-of_z w64 _ negative_fits ∙ negative
 
-pub overflow-mul-result : goal.overflow-mul-result
-overflow-mul-result c = product_fits c.from.result c.from-2.result c.args.drift c.args.steps c.from.ensures c.from-2.ensures c.ranges.drift c.requires (search rules)
+pub overflow_mul-result : goal.overflow_mul-result
+overflow_mul-result c = product_fits c.from.result c.from-2.result c.args.drift c.args.steps c.from.ensures c.from-2.ensures c.ranges.drift c.requires (search rules)
 
-pub overflow-sub-result : goal.overflow-sub-result
-overflow-sub-result c = negative_fits c.from.result c.from-2.result c.args.drift c.args.steps c.from.ensures c.from-2.ensures c.ranges.drift c.requires (search rules)
+pub overflow_sub-result : goal.overflow_sub-result
+overflow_sub-result c = negative_fits c.from.result c.from-2.result c.args.drift c.args.steps c.from.ensures c.from-2.ensures c.ranges.drift c.requires (search rules)
 
 pub returns : goal.returns
 returns c = negative_is c.from.result c.from-2.result c.args.drift c.args.steps c.from.ensures c.from-2.ensures c.ranges.drift c.requires (search rules)

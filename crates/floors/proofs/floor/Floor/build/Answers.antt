@@ -5,8 +5,8 @@ use Rattle.floors.specs.ActingLemmas.{workable}
 use Rattle.floors.proofs.Laws.{floor_law}
 use Rattle.floors.proofs.floor.Floor.build.Goals as goal
 
-pub find-fault-requires : goal.find-fault-requires
-find-fault-requires g c = subst Workable (sym c.numbers.ensures.answer) (workable _ (g.met.T.Tower.stands c.args.below))
+pub find_fault-requires : goal.find_fault-requires
+find_fault-requires g c = subst Workable (sym c.numbers.ensures.answer) (workable _ (g.met.T.Tower.stands c.args.below))
 
 pub returns-in-None : goal.returns-in-None
 returns-in-None g c = record {

@@ -20,14 +20,14 @@ returns-in-Some c =
       law = turing_steps m (proper-listed t.symbols t.heads t.transitions.list t.fits t.proper);
     }
 
-pub write-cells-requires : goal.write-cells-requires
-write-cells-requires c =
+pub write_cells-requires : goal.write_cells-requires
+write_cells-requires c =
     let t = c.args.self.now in
     let m = listed t.symbols t.heads t.transitions.list in
     let f : Configuration = record { tape = c.args.tape.now; position = c.args.position; state = c.args.state } in
     let n = length c.args.tape.now in
     let s = sized t.symbols t.heads t.fits in
-    let d = drawable m f (length c.args.buffer.now) c.in-default.ensures in
+    let d = drawable m f (length c.args.buffer.now) c.in_default.ensures in
     let z : n - 0 ≡ n = omega arith in
     record {
       sizes = (s.few-symbols, (omega (arith, d.state, s.few-heads), ap (λ k. length (take k c.args.buffer.now)) z ∙ length-take-le n c.args.buffer.now d.fits));
@@ -43,7 +43,7 @@ returns c =
     let buffer = c.args.buffer.now in
     let z : n - 0 ≡ n = omega arith in
     record {
-      answer = ap outcome c.in-default.ensures;
-      buffer = ap₂ ◌++◌ c.write-cells.ensures (ap (λ k. drop k buffer) (z ∙ sym (length-tabulate (cell m f) n))) ∙ ap (λ r. unless_refused r (written_over (drawing m f) buffer) buffer) c.in-default.ensures;
+      answer = ap outcome c.in_default.ensures;
+      buffer = ap₂ ◌++◌ c.write_cells.ensures (ap (λ k. drop k buffer) (z ∙ sym (length-tabulate (cell m f) n))) ∙ ap (λ r. unless_refused r (written_over (drawing m f) buffer) buffer) c.in_default.ensures;
       law = turing_steps m (proper-listed t.symbols t.heads t.transitions.list t.fits t.proper);
     }

@@ -5,10 +5,10 @@ use Rattle.rules.specs.Elementary.{elementary, WolframNumbered}
 use Rattle.rules.proofs.Elementary.{elementary_wolfram, bits_codes, bits_stored}
 use Rattle.rules.proofs.table.Table.elementary.Goals as goal
 
-pub invariant-of-result : goal.invariant-of-result
-invariant-of-result c =
+pub invariant_of-result : goal.invariant_of-result
+invariant_of-result c =
     let front = bits_stored c.args.number c.bits.result c.padded.result c.bits.ensures c.padded.ensures in
-    (refl, (ap (λ es. is_some (first_stray 2 es)) front ∙ bits_codes c.args.number, tt))
+    record { fits = refl; closed = ap (λ es. is_some (first_stray 2 es)) front ∙ bits_codes c.args.number }
 
 pub returns : goal.returns
 returns c =

@@ -12,28 +12,28 @@ plain : (q : ℕ) (lo hi : ℤ) (n : ℕ) → SFits w32 lo → SFits w32 hi
     → Some n ≡ cond (table_fits q lo hi) (Some (q ^ span lo hi)) None
 plain q lo hi n f k h = simp to_z-of_z at h
 
-pub returns-in-Some-first-stray : goal.returns-in-Some-first-stray
-returns-in-Some-first-stray c =
+pub returns-in-Some-first_stray : goal.returns-in-Some-first_stray
+returns-in-Some-first_stray c =
     let count = plain c.args.states c.args.lo c.args.hi c.in-Some.count c.ranges.lo c.ranges.hi c.in-Some.ensures in
     let len : length c.args.entries.now ≡ c.in-Some.count = omega arith in
-    record { answer = bad_entry_fault c.args.states c.args.lo c.args.hi c.args.entries.now c.in-Some.count c.in-Some-first-stray.index count len c.in-Some-first-stray.ensures.answer }
+    record { answer = bad_entry_fault c.args.states c.args.lo c.args.hi c.args.entries.now c.in-Some.count c.in-Some-first_stray.index count len c.in-Some-first_stray.ensures.answer }
 
-pub invariant-of-result : goal.invariant-of-result
-invariant-of-result c =
+pub invariant_of-result : goal.invariant_of-result
+invariant_of-result c =
     let count = plain c.args.states c.args.lo c.args.hi c.in-Some.count c.ranges.lo c.ranges.hi c.in-Some.ensures in
     let len : length c.args.entries.now ≡ c.in-Some.count = omega arith in
     let m : Made c.args.states c.args.lo c.args.hi c.args.entries.now c.padded.result =
-    made c.args.states c.args.lo c.args.hi c.args.entries.now c.padded.result c.in-Some.count count len c.in-default-first-stray.ensures.answer c.padded.ensures in
+    made c.args.states c.args.lo c.args.hi c.args.entries.now c.padded.result c.in-Some.count count len c.in_default-first_stray.ensures.answer c.padded.ensures in
     let f : SFits w32 c.args.lo = c.ranges.lo in
     let k : SFits w32 c.args.hi = c.ranges.hi in
-    simp to_z-of_z (m.fits, (ap (λ es. is_some (first_stray c.args.states es)) m.holds ∙ ap is_some (sym c.in-default-first-stray.ensures.answer), tt))
+    simp to_z-of_z (record { fits = m.fits; closed = ap (λ es. is_some (first_stray c.args.states es)) m.holds ∙ ap is_some (sym c.in_default-first_stray.ensures.answer) })
 
 pub returns : goal.returns
 returns c =
     let count = plain c.args.states c.args.lo c.args.hi c.in-Some.count c.ranges.lo c.ranges.hi c.in-Some.ensures in
     let len : length c.args.entries.now ≡ c.in-Some.count = omega arith in
     let m : Made c.args.states c.args.lo c.args.hi c.args.entries.now c.padded.result =
-    made c.args.states c.args.lo c.args.hi c.args.entries.now c.padded.result c.in-Some.count count len c.in-default-first-stray.ensures.answer c.padded.ensures in
+    made c.args.states c.args.lo c.args.hi c.args.entries.now c.padded.result c.in-Some.count count len c.in_default-first_stray.ensures.answer c.padded.ensures in
     let f : SFits w32 c.args.lo = c.ranges.lo in
     let k : SFits w32 c.args.hi = c.ranges.hi in
     record { answer = simp to_z-of_z (m.fault, ap (table c.args.states c.args.lo c.args.hi) m.holds) }

@@ -11,16 +11,16 @@ loop-index-preserved g c =
     let u = g.T.Tower.tower c.loop-index.self.top.0 in
     let same : u ≡ t = ap (λ x. g.T.Tower.tower x.0) c.loop-index.invariant.0 in
     let s = state_of c.loop-index.self c.loop-index.a c.loop-index.b in
-    let after = state_of c.perform-call-fault.new.run c.perform-call-fault.new.a c.perform-call-fault.new.b in
+    let after = state_of c.perform_call-fault.new.run c.perform_call-fault.new.a c.perform_call-fault.new.b in
     let calls = c.args.calls.now in
     let i = c.loop-index.index in
     let h = c.loop-index-test.true in
-    let state = c.perform-call-fault.ensures.state in (
-      c.perform-call-fault.ensures.same ∙ c.loop-index.invariant.0,
-      c.perform-call-fault.auto.third ∙ c.loop-index.invariant.1,
+    let state = c.perform_call-fault.ensures.state in (
+      c.perform_call-fault.ensures.same ∙ c.loop-index.invariant.0,
+      c.perform_call-fault.auto.third ∙ c.loop-index.invariant.1,
       sym (performed_more t u same calls i (Advance 0) h s after state) ∙ c.loop-index.invariant.2,
-      sym (performed_third_more t u same calls i (Advance 0) h s after state c.loop-index.third c.perform-call-fault.new.third c.perform-call-fault.ensures.third) ∙ c.loop-index.invariant.3,
-      sym (first_refused_more t u same calls i (Advance 0) h s after state _ _ c.loop-index.invariant.1 c.loop-index.refused c.earlier-refused.result c.perform-call-fault.result c.perform-call-fault.ensures.answer c.earlier-refused.ensures) ∙ c.loop-index.invariant.4,
+      sym (performed_third_more t u same calls i (Advance 0) h s after state c.loop-index.third c.perform_call-fault.new.third c.perform_call-fault.ensures.third) ∙ c.loop-index.invariant.3,
+      sym (first_refused_more t u same calls i (Advance 0) h s after state _ _ c.loop-index.invariant.1 c.loop-index.refused c.earlier-refused.result c.perform_call-fault.result c.perform_call-fault.ensures.answer c.earlier-refused.ensures) ∙ c.loop-index.invariant.4,
     )
 
 pub returns : goal.returns
