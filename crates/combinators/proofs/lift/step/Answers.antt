@@ -8,7 +8,7 @@ use Rattle.combinators.proofs.lift.step.Goals as goal
 
 pub returns-in_err-check_window : goal.returns-in_err-check_window
 returns-in_err-check_window g c =
-    let p = err_from_is_err_and c.from-residual.result c.from-residual.ensures.1 in
+    let p = err_from_is_err_and c.from_residual.result c.from_residual.ensures.1 in
     rw (p.1, p.2) (lift-refused (g.R.Rule.meaning c.args.rule.now) c.args.shape c.requires.0 c.framed-frame.result c.framed-frame.ensures c.args.direction c.args.window.now _ c.in_err-check_window.ensures.answer)
 
 pub write_halves-requires : goal.write_halves-requires

@@ -21,7 +21,7 @@ returns-in_err-check_window g c =
     let o = toward c.args.direction a in
     let t = c.args.times in
     let w = c.args.width in
-    let p = err_from_is_err_and c.from-residual.result c.from-residual.ensures.1 in
+    let p = err_from_is_err_and c.from_residual.result c.from_residual.ensures.1 in
     rw (p.1, p.2) (answer-refused c.args.states (option_map (iterate_local t) o) (t * (w - 1) + 1) c.args.window.now _
     (width_iterated a.states o w t (usable_top _ c.args.direction (g.met.T.Tower.stands x)) c.requires.width.0) c.in_err-check_window.ensures.answer)
 
@@ -33,9 +33,9 @@ loop-i-init g c =
     (ap (λ k. take k c.row_of-row.result) (sym len) ∙ c.row_of-row.ensures, omega arith, search rules)
 
 -- the row at the start of a turn
-row_now : (g : given.Over) (c : In-loop-i g) → RowBefore c.args.times c.args.width c.loop-i.-i c.loop-i.count c.loop-i.row
+row_now : (g : given.Over) (c : In-loop-i g) → RowBefore c.args.times c.args.width c.loop-i._i c.loop-i.count c.loop-i.row
 row_now g c =
-    row_before (toward c.args.direction (g.T.Tower.tower c.args.tower.now).top) c.args.times c.args.width c.loop-i.-i c.loop-i.count c.loop-i.row
+    row_before (toward c.args.direction (g.T.Tower.tower c.args.tower.now).top) c.args.times c.args.width c.loop-i._i c.loop-i.count c.loop-i.row
     c.requires.width.0 c.requires.width.1.1 c.loop-i-test.true c.loop-i.invariant.1 c.loop-i.invariant.2
 
 pub advance_row-requires : goal.advance_row-requires
@@ -52,7 +52,7 @@ advance_row-requires g c =
     let codes = (readable-same c.args.states a.states (c.args.times * (w - 1) + 1) ws c.requires.states c.in_ok-check_window.ensures.answer).codes in
     record {
       width = (c.requires.width.0, (omega (arith, before.size, before.wide), omega (arith, before.size, before.short)));
-      codes = subst (Codes a.states) (sym (ap (λ k. take k row) n ∙ c.loop-i.invariant.0)) (codes_rows a.states (toward d a) w (usable_top _ d (g.met.T.Tower.stands x)) c.requires.width.0 c.loop-i.-i ws codes);
+      codes = subst (Codes a.states) (sym (ap (λ k. take k row) n ∙ c.loop-i.invariant.0)) (codes_rows a.states (toward d a) w (usable_top _ d (g.met.T.Tower.stands x)) c.requires.width.0 c.loop-i._i ws codes);
     }
 
 pub overflow_sub-count : goal.overflow_sub-count
@@ -69,7 +69,7 @@ loop-i-preserved g c =
     let n : count - 0 ≡ count = omega arith in
     let shorter : count - (w - 1) ≡ length (take (count - 0) row) + 1 - w = omega (arith, before.some, before.size, before.wide) in (
       take-append-le (count - (w - 1)) next _ (omega (arith, c.advance_row.auto.row, before.size)) ∙ ap (λ k. take k next) shorter ∙ c.advance_row.ensures ∙
-          ap f (ap (λ k. take k row) n ∙ c.loop-i.invariant.0) ∙ sym (power_more f c.loop-i.-i c.args.window.now),
+          ap f (ap (λ k. take k row) n ∙ c.loop-i.invariant.0) ∙ sym (power_more f c.loop-i._i c.args.window.now),
       before.next,
       search (rules, overwrites),
     )
@@ -84,7 +84,7 @@ returns g c =
     let t = c.args.times in
     let ws = c.args.window.now in
     let row = c.loop-i.row in
-    let all : c.loop-i.-i ≡ t = omega (arith, c.loop-i-test.false) in
+    let all : c.loop-i._i ≡ t = omega (arith, c.loop-i-test.false) in
     let one : 0 < c.loop-i.count = omega (arith, c.loop-i.invariant.1, ap (λ n. n * (w - 1)) all) in
     answer-value c.args.states (option_map (iterate_local t) o) (t * (w - 1) + 1) ws (get_or row 0 0) (width_iterated a.states o w t (usable_top _ d (g.met.T.Tower.stands x)) c.requires.width.0) c.in_ok-check_window.ensures.answer
     (sym (get_or-take c.loop-i.count row 0 0 one) ∙ ap (λ l. get_or l 0 0) (c.loop-i.invariant.0 ∙ ap (λ n. power (map_list_windows (value_of o) w) n ws) all) ∙ value_iterated o w t ws c.requires.width.0)

@@ -13,7 +13,7 @@ use Rattle.floors.proofs.apply.mirrored.Goals.{After-reverse}
 pub returns-in_err-check_window : goal.returns-in_err-check_window
 returns-in_err-check_window g c =
     let o = toward c.args.direction (g.T.Tower.tower c.args.tower.now).top in
-    let p = err_from_is_err_and c.from-residual.result c.from-residual.ensures.1 in
+    let p = err_from_is_err_and c.from_residual.result c.from_residual.ensures.1 in
     rw (p.1, p.2) (answer-refused c.args.states (option_map mirror_local o) c.args.width c.args.window.now _ (width-mirrored o c.args.width c.requires.width.0) c.in_err-check_window.ensures.answer)
 
 -- the row holds the reversed window

@@ -14,7 +14,7 @@ use Rattle.floors.proofs.apply.packed.Goals.{In-loop-j}
 pub returns-in_err-check_window : goal.returns-in_err-check_window
 returns-in_err-check_window g c =
     let b = c.args.blocks in
-    let p = err_from_is_err_and c.from-residual.result c.from-residual.ensures.1 in
+    let p = err_from_is_err_and c.from_residual.result c.from_residual.ensures.1 in
     rw (p.1, p.2) (checked_refused b.total b.cells c.args.window.now _ _ c.in_err-check_window.ensures.answer)
 
 pub unpack-requires : goal.unpack-requires

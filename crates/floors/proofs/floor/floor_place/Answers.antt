@@ -21,7 +21,7 @@ returns-in_err-place g c =
       | else-n-gt0-via-then-n-gt0+else-n-after-ne0 w ↦ omega (arith, w.if-n-after-ne0.false)
       | else-n-gt0-via-else-n-gt0 w ↦ absurd (omega (arith, w.if-n-gt0.false))
     ] in
-    let p = err_from_is_err_and c.from-residual.result c.from-residual.ensures.1 in
+    let p = err_from_is_err_and c.from_residual.result c.from_residual.ensures.1 in
     rw (p.1, p.2) (floor_refused c.args.action t (g.met.T.Tower.stands c.args.below.now) c.numbers-x.result c.in-Some.after c.numbers-x.ensures.answer c.in-Some.ensures c.args.n c.args.j whole _ c.in_err-place.ensures.answer)
 
 pub moved_place-requires : goal.moved_place-requires

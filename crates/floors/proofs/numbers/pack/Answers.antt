@@ -3,4 +3,4 @@ use Rattle.floors.specs.ActingLemmas.{packed_not}
 use Rattle.floors.proofs.numbers.pack.Goals as goal
 
 pub returns-in_err-states : goal.returns-in_err-states
-returns-in_err-states c = c.from-residual.ensures ∙ packed_not c.args.m c.args.x c.in_err-states.ensures
+returns-in_err-states c = c.from_residual.ensures ∙ packed_not c.args.m c.args.x c.in_err-states.ensures

@@ -12,15 +12,15 @@ overflow_mul-power c =
 pub returns-then-power-from : goal.returns-then-power-from
 returns-then-power-from c =
     let same : c.loop-i.power * c.from-power.result ≡ c.loop-i.power * c.args.base = ap (λ n. c.loop-i.power * n) c.from-power.ensures in
-    within_not c.args.base c.loop-i.-i c.args.exponent c.loop-i.power 16777216 c.requires.0 c.loop-i-test.true c.loop-i.invariant.0 (omega arith)
+    within_not c.args.base c.loop-i._i c.args.exponent c.loop-i.power 16777216 c.requires.0 c.loop-i-test.true c.loop-i.invariant.0 (omega arith)
 
 pub loop-i-preserved : goal.loop-i-preserved
 loop-i-preserved c =
-    (ap₂ (λ (m n : ℕ). m * n) c.loop-i.invariant.0 c.from-power.ensures ∙ sym (pow_more c.args.base c.loop-i.-i), omega arith)
+    (ap₂ (λ (m n : ℕ). m * n) c.loop-i.invariant.0 c.from-power.ensures ∙ sym (pow_more c.args.base c.loop-i._i), omega arith)
 
 pub returns : goal.returns
 returns c =
-    let all : c.loop-i.-i ≡ c.args.exponent = omega arith in
+    let all : c.loop-i._i ≡ c.args.exponent = omega arith in
     within_is c.args.base c.args.exponent c.loop-i.power 16777216 (c.loop-i.invariant.0 ∙ ap (λ n. c.args.base ^ n) all) c.loop-i.invariant.1
 
 pub loop-i-init : goal.loop-i-init

@@ -25,7 +25,7 @@ step-requires g c =
     record {
       sizes = (c.args.run.now.some, (c.args.run.now.few, (omega (arith, m.room.a, c.loop-i.auto.a), omega (arith, m.room.b, c.loop-i.auto.b))));
       steps = m.goes;
-      codes = subst (λ l. Codes t.top.states (take c.args.run.now.cells l)) (sym c.loop-i.invariant.0) (codes-moved c.args.direction t.top sound c.args.count s c.args.run.now.some m true c.loop-i.-i (sym c.loop-i.invariant.2 ∙ c.if-in_a.true));
+      codes = subst (λ l. Codes t.top.states (take c.args.run.now.cells l)) (sym c.loop-i.invariant.0) (codes-moved c.args.direction t.top sound c.args.count s c.args.run.now.some m true c.loop-i._i (sym c.loop-i.invariant.2 ∙ c.if-in_a.true));
     }
 
 pub step-requires-else-in_a : goal.step-requires-else-in_a
@@ -37,7 +37,7 @@ step-requires-else-in_a g c =
     record {
       sizes = (c.args.run.now.some, (c.args.run.now.few, (omega (arith, m.room.b, c.loop-i.auto.b), omega (arith, m.room.a, c.loop-i.auto.a))));
       steps = m.goes;
-      codes = subst (λ l. Codes t.top.states (take c.args.run.now.cells l)) (sym c.loop-i.invariant.1) (codes-moved c.args.direction t.top sound c.args.count s c.args.run.now.some m false c.loop-i.-i (sym c.loop-i.invariant.2 ∙ c.if-in_a.false));
+      codes = subst (λ l. Codes t.top.states (take c.args.run.now.cells l)) (sym c.loop-i.invariant.1) (codes-moved c.args.direction t.top sound c.args.count s c.args.run.now.some m false c.loop-i._i (sym c.loop-i.invariant.2 ∙ c.if-in_a.false));
     }
 
 pub loop-i-preserved : goal.loop-i-preserved
@@ -47,7 +47,7 @@ loop-i-preserved g c =
     let s = state_of c.args.run.now c.args.a.now c.args.b.now in
     let m = movable d t.top c.args.count s c.requires in
     let sound = (g.met.T.Tower.stands c.args.run.now.top.0).laws.top in
-    let i = c.loop-i.-i in
+    let i = c.loop-i._i in
     let one : suc i ≡ i + 1 = omega arith in
     let even : not c.loop-i.in_a ≡ is_even (s.steps +ℤ toward_steps d (i + 1)) =
     ap not c.loop-i.invariant.2 ∙ sym (even_next d s.steps i) ∙ ap (λ n. is_even (s.steps +ℤ toward_steps d n)) one in

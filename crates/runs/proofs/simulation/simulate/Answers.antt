@@ -24,7 +24,7 @@ returns-in_err-run g c =
     let third = c.args.third.now in
     let room = c.usable_room-room.ensures in
     let refused = c.in_err-run.ensures in
-    let p = err_from_is_err_and c.from-residual.result c.from-residual.ensures.1 in
+    let p = err_from_is_err_and c.from_residual.result c.from_residual.ensures.1 in
     let fault = sym (usable_fault t ring (length a) (length b) (length third)) ∙ ap (λ n. option_map Tower (encode_fault t.bottom.states t.block ring n)) (sym room) ∙ refused.0 in
     record {
       answer = subst (λ r. Simulated t c.args.tower ring c.args.calls.now a b third r c.begin.new.a b third) (sym (p.1 ∙ ap Err p.2)) (fault, refused.1, refused.2, refl, refl);

@@ -21,10 +21,10 @@ returns-in_err-decode_rotated g c =
     let s = state_of c.args.self.now c.args.a.now c.args.b.now in
     let third = c.args.third.now in
     let room : s.cells ≤ length third / t.block = subst (λ m. s.cells ≤ length third / m) (ap (λ x. x.block) c.numbers-numbers.ensures.answer) c.if-third-numbers.false in
-    let p = err_from_is_err_and c.from-residual-in_err-decode_rotated.result c.from-residual-in_err-decode_rotated.ensures.1 in
+    let p = err_from_is_err_and c.from_residual-in_err-decode_rotated.result c.from_residual-in_err-decode_rotated.ensures.1 in
     let ring = c.in_ok-ring.ensures.answer.1 in
     let done = read-stray t (g.met.T.Tower.stands c.args.self.now.top.0).laws s third c.in_ok-ring.ensures.answer.0 c.args.self.now.some room c.in_err-decode_rotated.field-0.0 (to_z w64 (of_z w64 c.turn_back-rotation.result)) c.decode_rotated.new.buffer
-    c.from-residual-in_err-decode_rotated.result (p.1 ∙ ap Err p.2) (c.in_err-decode_rotated.ensures.answer ∙ ap (λ l. rotated_answer t l third) ring)
+    c.from_residual-in_err-decode_rotated.result (p.1 ∙ ap Err p.2) (c.in_err-decode_rotated.ensures.answer ∙ ap (λ l. rotated_answer t l third) ring)
     (c.decode_rotated.ensures.buffer ∙ ap (λ l. rotated_buffer t l (to_z w64 (of_z w64 c.turn_back-rotation.result)) third) ring) in
     record { answer = done.answer; buffer = done.buffer; law = done.law }
 
