@@ -2,7 +2,7 @@ use Rattle.std.proofs.Common.{neg_ℤ, sym, ◌∙◌, arith}
 use Rattle.std.proofs.lemmas.Bool.{le-leb, lt-leb, and_from, and_left, and_right}
 use Rattle.floors.specs.ActingLemmas.{packable_shifted, reduced_not, reduced_is}
 use Rattle.floors.proofs.numbers.reduce.Goals as goal
-use Rattle.floors.proofs.numbers.reduce.Goals.{then-block-gt-MAX-ARGUMENT-via-then-block-gt-MAX-ARGUMENT, then-block-gt-MAX-ARGUMENT-via-else-block-gt-MAX-ARGUMENT+then-not-intervals-fit}
+use Rattle.floors.proofs.numbers.reduce.Goals.{then-block-gt-MAX_ARGUMENT-via-then-block-gt-MAX_ARGUMENT, then-block-gt-MAX_ARGUMENT-via-else-block-gt-MAX_ARGUMENT+then-not-intervals_fit}
 
 pub returns-then-block-gt-MAX_ARGUMENT : goal.returns-then-block-gt-MAX_ARGUMENT
 returns-then-block-gt-MAX_ARGUMENT c =
