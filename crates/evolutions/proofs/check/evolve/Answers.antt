@@ -19,18 +19,18 @@ unfolding power
 loop-step-preserved g c =
     let a = g.R.Rule.meaning c.args.rule.now in
     let ring = c.args.ring.now in
-    let i = c.loop-step.-step in
+    let i = c.loop-step._step in
     let now = vec_items c.loop-step.current in
     let then = c.map_ring.new.buffer in
     let from = c.deref.result.now in
-    let into = c.deref-mut.result.now in
+    let into = c.deref_mut.result.now in
     let size : length now ≡ length ring = ap length c.loop-step.invariant.0 ∙ length-power a.forward i ring in
-    let long : length into ≡ length from = ap length c.deref-mut.ensures.value ∙ c.loop-step.invariant.1 ∙ sym size ∙ ap length (sym c.deref.ensures.value) in
+    let long : length into ≡ length from = ap length c.deref_mut.ensures.value ∙ c.loop-step.invariant.1 ∙ sym size ∙ ap length (sym c.deref.ensures.value) in
     let made : then ≡ ring_map a.forward now = c.map_ring.ensures.buffer ∙ mapped_whole Forward a from into c.in_ok-map_ring.ensures.answer long ∙ ap (ring_map a.forward) c.deref.ensures.value in
-    let filled : vec_items c.swap.new.x ≡ then = ap vec_items c.swap.ensures.x-after ∙ with_items_is c.loop-step.next then (omega (arith, c.map_ring.auto.buffer, c.deref-mut.ensures.len)) in (
+    let filled : vec_items c.swap.new.x ≡ then = ap vec_items c.swap.ensures.x_after ∙ with_items_is c.loop-step.next then (omega (arith, c.map_ring.auto.buffer, c.deref_mut.ensures.len)) in (
       filled ∙ made ∙ ap (ring_map a.forward) c.loop-step.invariant.0 ∙ sym (power_out (ring_map a.forward) i ring) ∙ ap (λ n. power (ring_map a.forward) n ring) (sym (add-one i)),
-      ap (λ v. length (vec_items v)) c.swap.ensures.y-after ∙ size,
+      ap (λ v. length (vec_items v)) c.swap.ensures.y_after ∙ size,
     )
 
 pub returns : goal.returns
-returns g c = let e : c.loop-step.-step ≡ c.args.steps = omega arith in c.loop-step.invariant.0 ∙ ap (λ n. after (g.R.Rule.meaning c.args.rule.now) (pos n) c.args.ring.now) e
+returns g c = let e : c.loop-step._step ≡ c.args.steps = omega arith in c.loop-step.invariant.0 ∙ ap (λ n. after (g.R.Rule.meaning c.args.rule.now) (pos n) c.args.ring.now) e

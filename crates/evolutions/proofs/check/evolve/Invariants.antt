@@ -4,5 +4,5 @@ use Rattle.evolutions.proofs.check.evolve.Given as goal
 
 abbrev pub invariant-loop-step : goal.invariant-loop-step
 invariant-loop-step g l =
-    (vec_items l.current ≡ after (g.R.Rule.meaning l.rule) (pos l.-step) l.ring)
+    (vec_items l.current ≡ after (g.R.Rule.meaning l.rule) (pos l._step) l.ring)
     × (length (vec_items l.next) ≡ length l.ring)

@@ -16,7 +16,7 @@ invariant_of-result g c =
     let some : 1 ≤ length ring / c.numbers.result.block = omega (arith, (fitting-made t ring a c.args.room (c.args.room - 0) c.requires part s accepted).some) in
     let few : length ring / c.numbers.result.block ≤ 2048 = omega (arith, cells-few t ring a c.args.room (c.args.room - 0) c.requires part s accepted) in
     let near : nat_abs (pos 0) ≤ 1000000000 = omega arith in
-    (some, (few, (near, tt)))
+    record { some = some; few = few; near = near }
 
 pub returns-in-Err : goal.returns-in-Err
 returns-in-Err g c =

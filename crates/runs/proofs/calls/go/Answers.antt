@@ -8,7 +8,7 @@ use Rattle.runs.specs.Views.{state_of}
 use Rattle.runs.proofs.Refusals.{movable}
 use Rattle.runs.proofs.Steps.{even_next, no_steps, next_moved, codes-moved, written-moved}
 use Rattle.runs.proofs.calls.go.Goals as goal
-use Rattle.runs.proofs.calls.go.Goals.{then-in-a, else-in-a}
+use Rattle.runs.proofs.calls.go.Goals.{then-in_a, else-in_a}
 
 pub loop-i-init : goal.loop-i-init
 unfolding moved

@@ -7,4 +7,4 @@ abbrev pub invariant-loop-i : goal.invariant-loop-i
 invariant-loop-i g l =
     (l.a ≡ (moved l.direction (g.T.Tower.tower l.run.top.0).top l._i (state_of l.run l.initial.a l.initial.b)).a)
     × (l.b ≡ (moved l.direction (g.T.Tower.tower l.run.top.0).top l._i (state_of l.run l.initial.a l.initial.b)).b)
-    × (l.in-a ≡ is_even (l.run.steps +ℤ toward_steps l.direction l._i))
+    × (l.in_a ≡ is_even (l.run.steps +ℤ toward_steps l.direction l._i))

@@ -6,5 +6,5 @@ use Rattle.worked.proofs.compute.evolve.Given as goal
 
 abbrev pub invariant-loop-step : goal.invariant-loop-step
 invariant-loop-step g l =
-    (vec_items l.current ≡ power (image (toward l.direction (g.R.Rule.meaning l.rule))) l.-step l.ring)
+    (vec_items l.current ≡ power (image (toward l.direction (g.R.Rule.meaning l.rule))) l._step l.ring)
     × (length (vec_items l.next) ≡ length l.ring)
