@@ -13,7 +13,7 @@ use Rattle.rings.specs.Integers.{floor_mod}
 use Rattle.rings.specs.Line.{Line, tabulate, window, Below}
 use Rattle.rings.specs.Ring.{at, Ring}
 use Rattle.rings.specs.Local.{Local, span, width, line_map, ring_map, Undoes}
-use Rattle.rings.specs.Automaton.{Automaton, Narrow, Proper, Inverse, Sound, Lawful, toward, after}
+use Rattle.rings.specs.Automaton.{Automaton, Narrow, Proper, Inverse, Sound, Lawful, toward}
 use Rattle.rings.proofs.Integers.{floor_mod_lt}
 use Rattle.rings.proofs.Line.{length-tabulate, slice_index-tabulate, tabulate-same}
 use Rattle.rings.proofs.Ring.{same-ring, below_at}

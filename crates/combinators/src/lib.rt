@@ -1,4 +1,6 @@
 // Rules made of other rules.
+#![tactic(auto)]
+
 mod choice;
 mod lift;
 

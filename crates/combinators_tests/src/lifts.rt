@@ -103,9 +103,9 @@ fn a_choice_goes_by_its_number(rt: HostRuntime) {
 
 #[test]
 fn every_kind_has_its_number(rt: HostRuntime) {
-    assert_eq!(rt; LiftRule::<Table>::kind_number(), 0x0020);
-    assert_eq!(rt; LiftRule::<Table>::KIND, 0x0020);
-    assert_eq!(rt; ChoiceRule::<Table, Table>::kind_number(), 0x0000);
-    assert_eq!(rt; ChoiceRule::<Table, Table>::KIND, 0x0000);
+    assert_eq!(rt; <Lift<Table> as Rule>::kind_number(), 0x0020);
+    assert_eq!(rt; <Lift<Table> as Rule>::KIND, 0x0020);
+    assert_eq!(rt; <Choice<Table, Table> as Rule>::kind_number(), 0x0000);
+    assert_eq!(rt; <Choice<Table, Table> as Rule>::KIND, 0x0000);
     assert_eq!(rt; <Table as Rule>::KIND, 0x0010);
 }

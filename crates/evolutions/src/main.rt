@@ -1,4 +1,6 @@
 // Checks published evolutions of automata through the proved library, and tells how each came out.
+#![tactic(auto)]
+
 mod check;
 #[cfg(test)]
 mod tests;

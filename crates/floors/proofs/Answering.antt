@@ -5,7 +5,7 @@ use Rattle.std.proofs.lemmas.Bool.{leb-true, and_parts, cond-true, cond-false}
 use Rattle.std.specs.Option.{option_map}
 use Rattle.rings.specs.declared.Direction.{Direction}
 use Rattle.rings.specs.declared.Direction.TheVariants.{Forward, Backward}
-use Rattle.rings.specs.Local.{Local, span, width}
+use Rattle.rings.specs.Local.{Local, span}
 use Rattle.rings.specs.Automaton.{Automaton, toward}
 use Rattle.rings.specs.Transformations.{pack_value, iterate_local, shift_local, mirror_local, pack_local}
 use Rattle.rings.proofs.Transformations.{width-shift, pack_covers}

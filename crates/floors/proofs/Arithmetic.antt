@@ -41,7 +41,7 @@ negation_is z h = omega (arith, ints)
 -- quotients and remainders
 
 -- the code's division by a positive number rounds towards minus infinity
-pub div_euclid_floor : (z : ℤ) (m : ℕ) → int_div_euclid z (pos m) ≡ floor_div z m
+div_euclid_floor : (z : ℤ) (m : ℕ) → int_div_euclid z (pos m) ≡ floor_div z m
 unfolding floor_div
 div_euclid_floor (pos a) m = refl
 div_euclid_floor (negsuc a) m = refl
@@ -52,6 +52,9 @@ unfolding floor_mod
 rem_euclid_floor (pos a) m = refl
 rem_euclid_floor (negsuc a) m = refl
 
--- the remainder of numbers that the code has in another form
+-- the quotient and the remainder of numbers that the code has in another form
+pub quotient_is : (z y d r : ℤ) (m : ℕ) → r ≡ int_div_euclid y d → y ≡ z → d ≡ pos m → r ≡ floor_div z m
+quotient_is z y d r m e f h = e ∙ ap₂ int_div_euclid f h ∙ div_euclid_floor z m
+
 pub remainder_is : (z y d r : ℤ) (m : ℕ) → r ≡ int_rem_euclid y d → y ≡ z → d ≡ pos m → r ≡ pos (floor_mod z m)
 remainder_is z y d r m e f h = e ∙ ap₂ int_rem_euclid f h ∙ rem_euclid_floor z m

@@ -1,4 +1,6 @@
 // Floors: transformations of a tower.
+#![tactic(auto)]
+
 mod action;
 mod answer;
 mod apply;

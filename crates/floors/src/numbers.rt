@@ -1,7 +1,7 @@
 // What an action makes of the numbers of a tower.
 ghost use Rattle.std.specs.Prelude.{◌≡◌, ◌^◌, ◌≤◌, pos, ◌+ℤ◌, ◌*ℤ◌, neg_ℤ, if◌then◌else◌, Some, None, nat_le, unsigned_abs};
 ghost use Rattle.std.specs.Option.{option_map};
-ghost use Rattle.rings.specs.Integers.{floor_div, floor_mod};
+ghost use Rattle.rings.specs.Integers.{floor_mod};
 ghost use Rattle.floors.specs.declared.action.Action.TheVariants.{Reduce};
 ghost use Rattle.towers.specs.Towers.{signed};
 ghost use Rattle.floors.specs.Actions.{iterate_ends, shift_ends, mirror_ends, pack_ends, iterate_numbers, shift_numbers, mirror_numbers, pack_numbers, reduced_block, in_range, ends_fit, inverse_fits, intervals_fit, within_limits};
@@ -225,9 +225,10 @@ pub(crate) fn pack_ends(ends: (i32, i32), m: u32) -> (i32, i32)
     requires { (LawfulEnds ends.0 ends.1) × ((1 ≤ m) × (m ≤ 16)) }
     ensures { result ≡ pack_ends m ends }
 {
+    let block = m as i32;
     (
-        end_quotient(ends.0, m),
-        end_quotient(m as i32 - 1 + ends.1, m),
+        ends.0.div_euclid(block),
+        (block - 1 + ends.1).div_euclid(block),
     )
 }
 
@@ -300,14 +301,6 @@ fn reduce(x: Numbers) -> Option<Numbers>
         return None;
     }
     pack(shifted, block)
-}
-
-// An end divided by m, rounded towards minus infinity.
-fn end_quotient(z: i32, m: u32) -> i32
-    requires { (1 ≤ m) × (m ≤ 16) }
-    ensures { result ≡ floor_div z m }
-{
-    z.div_euclid(m as i32)
 }
 
 // The remainder of an end by m, from 0 on.

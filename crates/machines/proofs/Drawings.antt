@@ -1,6 +1,6 @@
 -- Lemmas on the call that draws a configuration.
 use Rattle.std.proofs.Common.{◌≡◌, ℕ, ◌<◌, ◌≤◌, Bool, true, false, cond, eqb, ltb, leb, length, Some, None, Option, refl, arith}
-use Rattle.std.proofs.lemmas.Bool.{eqb-false, leb-false, ltb-false}
+use Rattle.std.proofs.lemmas.Bool.{leb-false, ltb-false}
 use Rattle.rings.specs.Ring.{Codes, first_stray, IsFirstStray}
 use Rattle.rings.proofs.Ring.{is_first_stray}
 use Rattle.rules.specs.declared.fault.RuleFault.TheVariants.{EmptyRing, ShortBuffer, OutOfRange}

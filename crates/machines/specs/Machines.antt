@@ -1,5 +1,5 @@
 -- Lemmas on the automata of Turing machines: they are lawful, and they step as their machines do.
-use Rattle.std.specs.Prelude.{◌≡◌, ℕ, zero, suc, ◌+◌, ◌-◌, ◌*◌, ◌/◌, ◌%◌, ◌^◌, ◌<◌, ◌≤◌, Bool, true, false, ◌&&◌, List, [], ◌∷◌, length, ℤ, pos, negsuc, ◌+ℤ◌, ◌*ℤ◌, neg_ℤ, IfSome, Some, None, Option, ◌==◌, nat_eq, slice_index, slice_index_or, slice_set}
+use Rattle.std.specs.Prelude.{◌≡◌, ℕ, zero, suc, ◌+◌, ◌-◌, ◌*◌, ◌/◌, ◌%◌, ◌^◌, ◌<◌, ◌≤◌, Bool, true, false, ◌&&◌, List, length, ℤ, pos, negsuc, ◌+ℤ◌, ◌*ℤ◌, neg_ℤ, IfSome, Some, None, Option, ◌==◌, nat_eq, slice_index, slice_index_or, slice_set}
 use Rattle.std.proofs.Math.Path.{refl, sym}
 use Rattle.std.proofs.Common.{ap, ap₂, ◌∙◌, arith, mod-eq_of_lt, mod-lt, mul_comm}
 use Rattle.std.proofs.Math.Bool.{and-true, and-false}
@@ -15,7 +15,7 @@ use Rattle.rings.specs.Integers.{floor_div, floor_mod}
 use Rattle.rings.specs.Line.{tabulate, power}
 use Rattle.rings.specs.Ring.{at, Codes}
 use Rattle.rings.specs.Local.{ring_map}
-use Rattle.rings.specs.Automaton.{Lawful, after}
+use Rattle.rings.specs.Automaton.{Lawful}
 use Rattle.rings.proofs.Integers.{floor_div_mod, floor_mod_lt, floor_mod_turns}
 use Rattle.rings.proofs.Line.{length-tabulate, slice_index-tabulate, is_tabulate}
 use Rattle.rings.proofs.Local.{length-ring_map, slice_index-ring_map}

@@ -1,16 +1,16 @@
 -- Lemmas on the list of transitions of a machine.
-use Rattle.std.specs.Prelude.{◌≡◌, ℕ, zero, suc, ◌+◌, ◌-◌, ◌*◌, ◌/◌, ◌%◌, ◌^◌, ◌<◌, ◌≤◌, Bool, true, false, cond, ◌&&◌, ◌≢◌, List, [], ◌∷◌, map, length, get_or, Some, None, Option, nat_lt, slice_index_or, slice_set, refl}
+use Rattle.std.specs.Prelude.{◌≡◌, ℕ, zero, suc, ◌+◌, ◌-◌, ◌*◌, ◌/◌, ◌%◌, ◌<◌, ◌≤◌, Bool, true, false, cond, ◌&&◌, ◌≢◌, List, [], ◌∷◌, map, length, get_or, Some, None, Option, nat_lt, slice_index_or, slice_set, refl}
 use Rattle.std.proofs.Common.{sym, ap, ap₂, ◌∙◌, ⊎_elim, arith, mod-lt, mod-eq_of_lt, mul_comm}
 use Rattle.std.proofs.Math.Nat.{add-mul-mod_self_left, add-mul-div_left, div-eq_of_lt}
 use Rattle.std.specs.List.{range_with_len}
-use Rattle.std.proofs.lemmas.Nat.{div_below, mul-add-lt, mul-le}
+use Rattle.std.proofs.lemmas.Nat.{div_below, mul-add-lt}
 use Rattle.std.proofs.lemmas.List.FromFn.{length-map-range_with_len, get_or-map-range_with_len, fill_by_all}
-use Rattle.std.proofs.lemmas.List.{get_or-set_same, get_or-set_other, length-set}
+use Rattle.std.proofs.lemmas.List.{get_or-set_same, get_or-set_other}
 use Rattle.std.proofs.lemmas.Bool.{leb-true, ltb-true, lt-ltb, le-ltb, eq-eqb, ne_eqb, and_parts, cases_lt, cases_eq}
 use Rattle.machines.specs.declared.transition.Transition.{Transition}
 use Rattle.machines.specs.declared.transition.Move.{Move}
-use Rattle.machines.specs.Turing.{Machine, ProperMachine, turing}
-use Rattle.machines.specs.Transitions.{idle, blank, listed, machine_fits, transition_fits, all_fit, new_transition, new_list, Idles, numbered_move, made_transition, transition_of, enter_list, Enters}
+use Rattle.machines.specs.Turing.{ProperMachine}
+use Rattle.machines.specs.Transitions.{idle, blank, listed, machine_fits, transition_fits, all_fit, new_transition, new_list, Idles, numbered_move, made_transition, transition_of, Enters}
 use Rattle.machines.specs.Cells.{acting, acts}
 
 -- what the sizes of a machine say

@@ -1,5 +1,5 @@
 -- Worked rings: facts about the definitions at written numbers, together.
-use Rattle.std.specs.Prelude.{◌≡◌, ℕ, cond, [], ◌∷◌, pos, negsuc, ◌==◌}
+use Rattle.std.specs.Prelude.{◌≡◌, cond, [], ◌∷◌, pos, negsuc, ◌==◌}
 use Rattle.rings.specs.Automaton.{Automaton, after}
 use Rattle.rules.specs.Tables.{table}
 use Rattle.rules.specs.Elementary.{elementary}

@@ -1,4 +1,6 @@
 // Turing machines as rules, on rings.
+#![tactic(auto)]
+
 mod transition;
 mod turing;
 

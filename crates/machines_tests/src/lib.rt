@@ -1,3 +1,5 @@
+#![tactic(auto)]
+
 // Examples for the crate `machines`, as tests.
 #[cfg(test)]
 mod machines;

@@ -1,5 +1,5 @@
 -- Lemmas on division of an integer by a natural number, rounded towards minus infinity.
-use Rattle.std.proofs.Common.{◌≡◌, ℕ, ◌+◌, ◌-◌, ◌*◌, ◌/◌, ◌%◌, ◌<◌, ◌≤◌, ℤ, pos, negsuc, ◌+ℤ◌, ◌*ℤ◌, ◌≤ℤ◌, sym, refl, ap, ◌∙◌, mul-le-mul_right, mod-lt, div-add-mod', arith}
+use Rattle.std.proofs.Common.{◌≡◌, ℕ, ◌+◌, ◌-◌, ◌*◌, ◌/◌, ◌%◌, ◌<◌, ◌≤◌, ℤ, pos, negsuc, ◌+ℤ◌, ◌*ℤ◌, ◌≤ℤ◌, sym, ap, ◌∙◌, mul-le-mul_right, mod-lt, div-add-mod', arith}
 use lib.IntN.{+ℤ_comm}
 use lib.Arith.{digits_div, digits_mod}
 use Rattle.std.proofs.lemmas.Int.{ints, by_lt_z}

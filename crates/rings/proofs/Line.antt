@@ -1,12 +1,12 @@
 -- Lemmas on lines: windows, rotation, reflection, maps of lines, and what keeps a period.
-use Rattle.std.proofs.Common.{◌≡◌, ℕ, zero, suc, ◌+◌, ◌-◌, ◌<◌, ◌≤◌, List, reverse, length, get_or, take, drop, ℤ, pos, negsuc, ◌+ℤ◌, ◌*ℤ◌, neg_ℤ, sym, refl, ap, ◌∙◌, arith}
+use Rattle.std.proofs.Common.{◌≡◌, ℕ, zero, suc, ◌+◌, ◌-◌, ◌<◌, ◌≤◌, List, reverse, length, get_or, take, drop, ℤ, pos, negsuc, ◌+ℤ◌, ◌*ℤ◌, neg_ℤ, sym, ap, ◌∙◌, arith}
 use mathlib.Core.Path.{fun_ext}
 use lib.IntN.{+ℤ_assoc}
 use Rattle.std.proofs.lemmas.List.FromFn.{length-map-range_with_len, get_or-map-range_with_len, fill_by_all}
 use Rattle.std.proofs.lemmas.List.{get_or-take, get_or-drop, get_or-reverse, length-take, length-drop, length-reverse}
 use Rattle.std.proofs.lemmas.Int.{ints}
 use Rattle.rings.specs.Integers.{floor_div, floor_mod}
-use Rattle.rings.specs.Line.{Line, tabulate, window, rotate_line, reflect_line, Periodic, Below, power}
+use Rattle.rings.specs.Line.{Line, tabulate, window, rotate_line, reflect_line, Periodic}
 use Rattle.rings.specs.Local.{map_windows}
 use Rattle.rings.proofs.Integers.{floor_div_mod}
 

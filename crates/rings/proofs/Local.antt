@@ -2,7 +2,7 @@
 use Rattle.std.proofs.Common.{◌≡◌, ℕ, zero, suc, ◌<◌, ◌≤◌, List, length, get_or, ℤ, pos, ◌+ℤ◌, neg_ℤ, sym, refl, ap, ◌∙◌, subst, ap₂, arith}
 use lib.IntN.{+ℤ_invl}
 use Rattle.rings.specs.Line.{Line, window, rotate_line, Below, power}
-use Rattle.rings.specs.Ring.{at, cut, Codes, Ring, rotate}
+use Rattle.rings.specs.Ring.{at, Codes, Ring, rotate}
 use Rattle.rings.specs.Local.{Local, width, line_map, ring_map, Closed, Undoes, CommutesWithRotation}
 use Rattle.rings.proofs.Line.{length-tabulate, slice_index-tabulate, map_windows-rotate_line, periodic_map_windows}
 use Rattle.rings.proofs.Ring.{at_cut, cut_at, same-ring, periodic_at, below_at, length_cut, slice_index-cut, ring_cut, length-rotate, at-rotate}

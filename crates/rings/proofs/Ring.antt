@@ -5,7 +5,7 @@ use Rattle.std.proofs.lemmas.List.{get_or-reverse, length-reverse, at_drop_more,
 use Rattle.std.proofs.lemmas.Int.{ints}
 use Rattle.std.proofs.lemmas.Bool.{lt-ltb, le-ltb, ltb-true, ltb-false}
 use Rattle.rings.specs.Integers.{floor_div, floor_mod}
-use Rattle.rings.specs.Line.{Line, tabulate, window, rotate_line, reflect_line, Periodic, Below}
+use Rattle.rings.specs.Line.{Line, rotate_line, reflect_line, Periodic, Below}
 use Rattle.rings.specs.Ring.{at, cut, Codes, Ring, rotate, reflect, stray_from, first_stray, StrayAt, IsFirstStray}
 use Rattle.rings.proofs.Integers.{floor_mod_lt, floor_mod_turns, floor_div_mod, floor_mod_add}
 use Rattle.rings.proofs.Line

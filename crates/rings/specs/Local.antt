@@ -1,5 +1,5 @@
 -- Local functions with the interval of cells that they read, and their maps of rings.
-use Rattle.std.specs.Prelude.{◌≡◌, ℕ, suc, ◌<◌, ◌≤◌, List, length, ℤ, ◌+ℤ◌, ◌-ℤ◌, ◌≤ℤ◌, unsigned_abs}
+use Rattle.std.specs.Prelude.{◌≡◌, ℕ, suc, ◌<◌, ◌≤◌, List, length, ℤ, ◌+ℤ◌, ◌-ℤ◌, unsigned_abs}
 use Rattle.rings.specs.Line.{Line, window}
 use Rattle.rings.specs.Ring.{at, cut, Codes, Ring, rotate}
 

@@ -1,4 +1,6 @@
 // Rings of cells: what every layer above shares. The definitions are in specs/, the lemmas in proofs/.
+#![tactic(auto)]
+
 ghost use Rattle.std.specs.Prelude.{◌≡◌};
 ghost use Rattle.rings.specs.Local.{span};
 ghost use Rattle.rings.specs.Ring.{first_stray, IsFirstStray};

@@ -1,8 +1,8 @@
 -- Lemmas on the elementary automata: Wolfram's numbering, and the bits of a number as entries.
-use Rattle.std.proofs.Common.{◌≡◌, ℕ, ◌+◌, ◌*◌, ◌^◌, ◌<◌, false, List, length, get_or, take, ℤ, pos, negsuc, ◌+ℤ◌, is_some, sym, refl, ap, ◌∙◌, mod-lt, arith}
+use Rattle.std.proofs.Common.{◌≡◌, ℕ, ◌+◌, ◌*◌, ◌^◌, ◌<◌, false, List, length, take, ℤ, pos, negsuc, ◌+ℤ◌, is_some, sym, ap, ◌∙◌, mod-lt, arith}
 use Rattle.std.proofs.lemmas.Int.{ints}
 use Rattle.rings.specs.Line.{Line, tabulate, window}
-use Rattle.rings.specs.Ring.{at, Ring, Codes, first_stray}
+use Rattle.rings.specs.Ring.{at, Codes, first_stray}
 use Rattle.rings.proofs.Line.{length-tabulate, slice_index-tabulate}
 use Rattle.rings.proofs.Ring.{below_at, first_stray-codes}
 use Rattle.rings.proofs.Local.{slice_index-ring_map, length-window, codes-window}

@@ -1,24 +1,24 @@
 -- Lemmas on the map of a whole ring.
-use Rattle.std.proofs.Common.{◌≡◌, ℕ, ◌+◌, ◌-◌, ◌<◌, ◌≤◌, Bool, true, false, cond, eqb, ltb, ◌≢◌, List, ◌++◌, length, get_or, take, drop, set, ℤ, pos, negsuc, ◌+ℤ◌, ◌*ℤ◌, nat_abs, IfSome, Some, None, Ok, Err, Option, sym, refl, ap, ◌∙◌, subst, ap₂, zero-add, arith, below_more}
+use Rattle.std.proofs.Common.{◌≡◌, ℕ, ◌+◌, ◌-◌, ◌<◌, ◌≤◌, Bool, true, false, cond, eqb, ltb, ◌≢◌, List, ◌++◌, length, get_or, take, drop, set, ℤ, pos, negsuc, ◌+ℤ◌, ◌*ℤ◌, nat_abs, IfSome, Some, None, Ok, Option, sym, refl, ap, ◌∙◌, subst, ap₂, zero-add, arith, below_more}
 use Rattle.std.proofs.lemmas.List.{append-nil, drop_all, get_or-set_same, get_or-set_other, drop-take, take-take}
 use Rattle.std.proofs.lemmas.Int.{ints}
-use Rattle.std.proofs.lemmas.Bool.{eqb-false, ltb-false, ltb-true}
+use Rattle.std.proofs.lemmas.Bool.{eqb-false, ltb-false}
 use Rattle.std.specs.Int.{int_rem_euclid}
 use Rattle.rings.specs.declared.Direction.{Direction}
 use Rattle.rings.specs.declared.Direction.TheVariants.{Forward, Backward}
 use Rattle.rings.specs.Integers.{floor_div, floor_mod}
-use Rattle.rings.specs.Line.{Line, tabulate, window, power}
+use Rattle.rings.specs.Line.{tabulate, window, power}
 use Rattle.rings.specs.Ring.{at, Ring, Codes, first_stray, IsFirstStray}
-use Rattle.rings.specs.Local.{Local, span, width, ring_map, CommutesWithRotation}
-use Rattle.rings.specs.Automaton.{Automaton, Lawful, Narrow, Proper, Inverse, toward, after}
+use Rattle.rings.specs.Local.{Local, span, width, ring_map}
+use Rattle.rings.specs.Automaton.{Automaton, Lawful, Narrow, Proper, Inverse, toward}
 use Rattle.rings.proofs.Integers.{floor_div_mod, floor_mod_lt}
-use Rattle.rings.proofs.Line.{is_tabulate, tabulate-same, window_same, part_of_window, periodic_times}
+use Rattle.rings.proofs.Line.{tabulate-same, window_same, part_of_window, periodic_times}
 use Rattle.rings.proofs.Ring.{periodic_at, below_at, is_first_stray}
 use Rattle.rings.proofs.Local.{length-window, codes-window, length-ring_map, ring_map-rotate}
 use Rattle.rules.specs.declared.fault.RuleFault.{RuleFault}
 use Rattle.rules.specs.declared.fault.RuleFault.TheVariants.{EmptyRing, LongRing, ShortBuffer, NoInverse}
 use Rattle.rules.specs.Answers.{ends, answer}
-use Rattle.rules.specs.Maps.{stray_fault, ring_fault, map_fault, outcome, map_answer, image, written_over, unless_refused, map_buffer, one_step, StepLaw, StepLaws}
+use Rattle.rules.specs.Maps.{stray_fault, ring_fault, map_fault, outcome, map_answer, image, written_over, unless_refused, map_buffer, StepLaw, StepLaws}
 use Rattle.rules.specs.Steps.{value_of, Reads, Placed, part}
 use Rattle.rules.specs.Windows.{checked_readable}
 

@@ -1,5 +1,5 @@
 -- The elementary automata: two states, the cell and its two neighbours, numbered by Wolfram.
-use Rattle.std.specs.Prelude.{◌≡◌, ℕ, ◌+◌, ◌*◌, ◌/◌, ◌%◌, ◌^◌, ◌<◌, List, length, ℤ, pos, negsuc, ◌+ℤ◌, slice_index}
+use Rattle.std.specs.Prelude.{◌≡◌, ℕ, ◌+◌, ◌*◌, ◌/◌, ◌%◌, ◌^◌, ◌<◌, List, length, pos, negsuc, ◌+ℤ◌, slice_index}
 use Rattle.rings.specs.Line.{tabulate}
 use Rattle.rings.specs.Ring.{at, Ring}
 use Rattle.rings.specs.Local.{ring_map}

@@ -1,6 +1,6 @@
 -- Lemmas on tables: the index of an entry, and that a table is a lawful automaton.
-use Rattle.std.specs.Prelude.{◌≡◌, ℕ, zero, suc, ◌+◌, ◌*◌, ◌^◌, ◌<◌, ◌≤◌, Bool, true, false, cond, List, [], ◌∷◌, ◌++◌, length, take, ℤ, pos, negsuc, ◌≤ℤ◌, is_some, Some, None, Ok, Option, int_le, nat_le, slice_index, slice_index_or, refl}
-use Rattle.std.proofs.Common.{sym, ap, subst, ◌∙◌, ⊎_elim, arith, pow-suc, add-mul, mul_assoc, mul_comm, mul-le-mul_right, add-one}
+use Rattle.std.specs.Prelude.{◌≡◌, ℕ, suc, ◌+◌, ◌*◌, ◌^◌, ◌<◌, ◌≤◌, Bool, true, false, cond, List, [], ◌∷◌, ◌++◌, length, take, ℤ, pos, negsuc, ◌≤ℤ◌, is_some, Some, None, Ok, Option, int_le, nat_le, slice_index, slice_index_or, refl}
+use Rattle.std.proofs.Common.{sym, ap, ◌∙◌, ⊎_elim, arith, pow-suc, add-mul, mul_assoc, mul_comm, mul-le-mul_right, add-one}
 use Rattle.std.proofs.Math.Nat.{pow-zero, pow-le-pow_right}
 use Rattle.std.proofs.lemmas.List.{length_push, take_more, length-take-le, get_or-take, get_or_past}
 use Rattle.std.proofs.lemmas.Int.{ints}

@@ -1,11 +1,11 @@
 -- What is known of a window that was checked.
-use Rattle.std.specs.Prelude.{◌≡◌, ℕ, Bool, true, false, cond, List, length, Some, None, Ok, Err, Option, Result, ◌==◌, refl}
-use Rattle.std.proofs.Common.{sym, ap, ◌∙◌, arith}
+use Rattle.std.specs.Prelude.{◌≡◌, ℕ, Bool, true, false, cond, List, length, Some, None, Ok, Err, Option, ◌==◌, refl}
+use Rattle.std.proofs.Common.{arith}
 use Rattle.std.proofs.lemmas.Bool.{eqb-true, eq-eqb}
 use Rattle.rings.specs.Ring.{Codes, first_stray, IsFirstStray}
 use Rattle.rings.proofs.Ring.{is_first_stray, first_stray-codes}
 use Rattle.rules.specs.declared.fault.RuleFault.{RuleFault}
-use Rattle.rules.specs.declared.fault.RuleFault.TheVariants.{StrayCode, WrongLength}
+use Rattle.rules.specs.declared.fault.RuleFault.TheVariants.{WrongLength}
 use Rattle.rules.specs.Answers.{unless_stray, checked}
 
 -- a window of w codes below q

@@ -1,4 +1,6 @@
 // Rules: one interface for every kind of cellular automaton.
+#![tactic(auto)]
+
 ghost use Rattle.std.specs.Prelude.{◌≡◌, ℕ};
 ghost use Rattle.rings.specs.Automaton.{Automaton, Lawful};
 ghost use Rattle.rules.specs.Answers.{shape_of, ends, next_answer, previous_answer};

@@ -1,3 +1,5 @@
+#![tactic(auto)]
+
 // Examples for the crate `rules`, as tests.
 #[cfg(test)]
 mod maps;

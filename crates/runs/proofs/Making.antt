@@ -1,6 +1,6 @@
 -- Lemmas on making a run: what is refused, what is written, and what the new run shows.
-use Rattle.std.proofs.Common.{◌≡◌, ℕ, ◌*◌, ◌/◌, ◌≤◌, min, List, ◌++◌, length, take, drop, ℤ, pos, Some, None, Ok, Err, Option, Result, sym, refl, ap, ◌∙◌, subst, ap₂, append_assoc, mul-le-mul_left, arith}
-use Rattle.std.proofs.lemmas.List.{length-take-le, take-append-drop, drop-append-le, take_at}
+use Rattle.std.proofs.Common.{◌≡◌, ℕ, ◌*◌, ◌/◌, ◌≤◌, min, List, ◌++◌, length, take, drop, ℤ, pos, Some, None, Ok, Err, Option, Result, sym, refl, ap, ◌∙◌, subst, append_assoc, mul-le-mul_left, arith}
+use Rattle.std.proofs.lemmas.List.{length-take-le, take-append-drop, drop-append-le}
 use Rattle.std.specs.Option.{option_map}
 use Rattle.rings.specs.Line.{power}
 use Rattle.rules.specs.Maps.{written_over}
@@ -13,8 +13,8 @@ use Rattle.towers.proofs.Calls.{Encodable, encodable, fitting_of}
 use Rattle.runs.specs.declared.run.Run.{Run}
 use Rattle.runs.specs.declared.calls.Unmade.{Unmade}
 use Rattle.runs.specs.declared.fault.RunFault.TheVariants.{Tower as Refused}
-use Rattle.runs.specs.States.{State, held}
-use Rattle.runs.specs.Calls.{make_fault, made}
+use Rattle.runs.specs.States.{State}
+use Rattle.runs.specs.Calls.{made}
 use Rattle.runs.specs.Laws.{Shows}
 use Rattle.runs.specs.Views.{state_of, Begins, Makes}
 use Rattle.runs.proofs.Steps.{take-written, length-written}

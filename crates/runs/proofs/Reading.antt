@@ -1,8 +1,8 @@
 -- Lemmas on reading a run.
-use Rattle.std.proofs.Common.{◌≡◌, ℕ, ◌*◌, ◌/◌, ◌<◌, ◌≤◌, Bool, true, false, cond, eqb, ltb, ◌≢◌, List, length, ℤ, pos, ◌*ℤ◌, neg_ℤ, Some, None, Ok, Err, Option, Result, sym, refl, ap, ◌∙◌, subst, ap₂, arith}
+use Rattle.std.proofs.Common.{◌≡◌, ℕ, ◌*◌, ◌/◌, ◌<◌, ◌≤◌, false, cond, ltb, ◌≢◌, List, length, ℤ, ◌*ℤ◌, neg_ℤ, Some, None, Ok, Err, Option, Result, sym, refl, ap, ◌∙◌, ap₂, arith}
 use Rattle.std.proofs.lemmas.Bool.{le-ltb, ne_eqb}
 use Rattle.std.specs.Option.{option_map}
-use Rattle.rings.specs.Ring.{Ring, first_stray, rotate}
+use Rattle.rings.specs.Ring.{first_stray, rotate}
 use Rattle.rules.specs.declared.fault.RuleFault.TheVariants.{ShortBuffer}
 use Rattle.rules.specs.Maps.{written_over}
 use Rattle.runs.specs.Outcomes.{outcome, unless_refused}

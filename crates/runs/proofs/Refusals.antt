@@ -1,5 +1,5 @@
 -- Lemmas on refusals: what each check decides, and what is known of a run when none refuses.
-use Rattle.std.proofs.Common.{◌≡◌, ℕ, ◌/◌, ◌<◌, ◌≤◌, Bool, true, false, cond, ◌||◌, ltb, List, length, ◌+ℤ◌, nat_abs, is_some, Some, None, Option, sym, refl, ap, ◌∙◌, arith}
+use Rattle.std.proofs.Common.{◌≡◌, ℕ, ◌/◌, ◌<◌, ◌≤◌, Bool, true, false, cond, ◌||◌, ltb, List, length, ◌+ℤ◌, nat_abs, is_some, Some, None, Option, refl, arith}
 use Rattle.std.proofs.lemmas.Bool.{ltb-false, lt-ltb, le-ltb}
 use Rattle.rings.specs.declared.Direction.{Direction}
 use Rattle.rings.specs.Ring.{Codes, first_stray, IsFirstStray}

@@ -1,5 +1,5 @@
 -- Lemmas on what a run shows: the limits alone decide its calls, and steps lead from what it shows to what it shows next.
-use Rattle.std.proofs.Common.{◌≡◌, ℕ, zero, suc, ◌+◌, ◌*◌, ◌≤◌, Bool, true, false, cond, ◌||◌, ltb, List, [], ◌∷◌, length, ℤ, pos, negsuc, ◌+ℤ◌, ◌-ℤ◌, neg_ℤ, is_some, IfNone, Some, None, Option, Result, sym, refl, ap, ◌∙◌, subst, ap₂, arith}
+use Rattle.std.proofs.Common.{◌≡◌, ℕ, zero, suc, ◌+◌, ◌*◌, Bool, true, false, cond, ◌||◌, ltb, List, [], ◌∷◌, length, ℤ, pos, negsuc, ◌+ℤ◌, ◌-ℤ◌, neg_ℤ, is_some, IfNone, Some, None, Option, Result, sym, refl, ap, ◌∙◌, subst, ap₂, arith}
 use Rattle.std.proofs.lemmas.Int.{ints}
 use Rattle.std.proofs.lemmas.Bool.{le-ltb}
 use Rattle.std.specs.Option.{option_map}
@@ -11,7 +11,6 @@ use Rattle.rings.specs.Automaton.{Automaton, toward, after, Goes}
 use Rattle.rings.proofs.Ring.{first_stray-codes}
 use Rattle.rings.proofs.Automaton.{after_add, length-after, ring-after, goes_any}
 use Rattle.rules.specs.declared.fault.RuleFault.TheVariants.{ShortBuffer, NoInverse}
-use Rattle.rules.specs.Maps.{written_over}
 use Rattle.runs.specs.Outcomes.{outcome, unless_refused}
 use Rattle.towers.specs.Towers.{Tower, Fitting, Stands}
 use Rattle.towers.proofs.Steps.{goes_same}
@@ -20,11 +19,11 @@ use Rattle.runs.specs.declared.Call.TheVariants.{Advance, Back, Read, Present, T
 use Rattle.runs.specs.declared.RefusedCall.{RefusedCall}
 use Rattle.runs.specs.declared.fault.RunFault.{RunFault}
 use Rattle.runs.specs.declared.fault.RunFault.TheVariants.{TooFar}
-use Rattle.runs.specs.States.{State, is_even, of_holder, held, toward_steps, holding, moved}
-use Rattle.runs.specs.Calls.{rule_fault, refused_if, stray_fault, is_short, is_too_far, move_fault, tried, read_fault, call_fault, called, performed, earlier, refused_at, first_refused}
+use Rattle.runs.specs.States.{State, held, toward_steps, holding, moved}
+use Rattle.runs.specs.Calls.{rule_fault, refused_if, stray_fault, is_short, is_too_far, move_fault, tried, call_fault, called, performed, earlier, refused_at, first_refused}
 use Rattle.runs.specs.Laws.{Shows, limit_fault, accepted_steps, next_count, count_after, accepted, last_of, last_step, limit_refused, has_inverse, shown, MoveLaw, PerformLaw}
 use Rattle.runs.proofs.Refusals.{Roomy}
-use Rattle.runs.proofs.Steps.{goes-toward, toward_steps_add, no_steps, written_twice, length-written, held_moved, length-held, cells-moved, steps-moved, length_moved, holding_twice}
+use Rattle.runs.proofs.Steps.{goes-toward, no_steps, held_moved, cells-moved, steps-moved, length_moved, holding_twice}
 
 -- steps that an automaton can go
 

@@ -1,5 +1,5 @@
 -- Lemmas on whole simulations.
-use Rattle.std.proofs.Common.{◌≡◌, ℕ, ◌*◌, ◌/◌, ◌%◌, ◌<◌, ◌≤◌, min, Bool, true, false, cond, eqb, ltb, List, [], ◌∷◌, length, ℤ, pos, ◌+ℤ◌, ◌-ℤ◌, ◌*ℤ◌, is_some, Some, None, Ok, Err, Option, Result, sym, refl, ap, ◌∙◌, subst, ap₂, ⊎_elim, div-add-mod', arith}
+use Rattle.std.proofs.Common.{◌≡◌, ℕ, ◌*◌, ◌/◌, ◌%◌, ◌<◌, ◌≤◌, min, Bool, true, false, cond, eqb, ltb, List, [], ◌∷◌, length, ℤ, pos, ◌*ℤ◌, is_some, Some, None, Option, Result, sym, refl, ap, ◌∙◌, subst, ⊎_elim, div-add-mod', arith}
 use Rattle.std.proofs.lemmas.Int.{ints}
 use Rattle.std.proofs.lemmas.Bool.{eqb-true, eqb-false, ltb-false, lt-ltb, le-ltb, cases_lt}
 use Rattle.std.specs.Option.{option_map}
@@ -7,13 +7,12 @@ use Rattle.rings.specs.declared.Direction.{Direction}
 use Rattle.rings.specs.declared.Direction.TheVariants.{Forward, Backward}
 use Rattle.rings.specs.Line.{power}
 use Rattle.rings.specs.Ring.{first_stray}
-use Rattle.rings.specs.Automaton.{Automaton, after}
+use Rattle.rings.specs.Automaton.{after}
 use Rattle.rings.proofs.Automaton.{length-after}
-use Rattle.rules.specs.declared.fault.RuleFault.TheVariants.{EmptyRing, LongRing, ShortBuffer, NoInverse}
-use Rattle.rules.specs.Answers.{shape_of}
+use Rattle.rules.specs.declared.fault.RuleFault.TheVariants.{EmptyRing, LongRing, ShortBuffer}
 use Rattle.rules.specs.Maps.{written_over}
-use Rattle.runs.specs.Outcomes.{outcome, unless_refused}
-use Rattle.combinators.specs.Lifts.{liftable, lifted, lift_or}
+use Rattle.runs.specs.Outcomes.{unless_refused}
+use Rattle.combinators.specs.Lifts.{lifted}
 use Rattle.towers.specs.declared.fault.TowerFault.TheVariants.{Rule, Ragged}
 use Rattle.towers.specs.Towers.{Tower, Stands}
 use Rattle.towers.specs.Numbers.{Standing}
@@ -23,10 +22,10 @@ use Rattle.runs.specs.declared.Call.TheVariants.{Advance, Back, Read, Present, T
 use Rattle.runs.specs.declared.RefusedCall.{RefusedCall}
 use Rattle.runs.specs.declared.Told.{Told}
 use Rattle.runs.specs.declared.fault.RunFault.{RunFault}
-use Rattle.runs.specs.declared.fault.RunFault.TheVariants.{Tower as Refused, TooFar}
-use Rattle.runs.specs.States.{State, held, holder}
-use Rattle.runs.specs.Calls.{rule_fault, refused_if, is_too_far, reading, read_buffer, called, called_third, performed_third, earlier, made}
-use Rattle.runs.specs.Laws.{Shows, limit_fault, limit_refused, shown, Performs, count_after, last_step, accepted, has_inverse, bottom_after, final_count, PerformLaw, ReadLaw, SimulatesRun, Returns, ExactInverse}
+use Rattle.runs.specs.declared.fault.RunFault.TheVariants.{Tower as Refused}
+use Rattle.runs.specs.States.{State, holder}
+use Rattle.runs.specs.Calls.{rule_fault, refused_if, reading, read_buffer, called, called_third, performed_third, earlier, made}
+use Rattle.runs.specs.Laws.{Shows, limit_fault, limit_refused, shown, Performs, last_step, accepted, has_inverse, bottom_after, final_count, PerformLaw, ReadLaw, SimulatesRun, ExactInverse}
 use Rattle.runs.specs.Simulations.{usable_room, simulate_fault}
 use Rattle.runs.proofs.Steps.{written_twice, length-written}
 use Rattle.runs.proofs.Shown.{Stage, stage_first, stage_called, call_fault-shown}

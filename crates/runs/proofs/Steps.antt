@@ -1,5 +1,5 @@
 -- Lemmas on the steps of a run: one step after i steps is i + 1 steps, in the rings and in the buffers.
-use Rattle.std.proofs.Common.{◌≡◌, ℕ, zero, suc, ◌+◌, ◌%◌, ◌<◌, ◌≤◌, Bool, true, false, cond, not, eqb, ltb, ◌≢◌, List, ◌++◌, length, take, drop, ℤ, pos, negsuc, ◌+ℤ◌, neg_ℤ, nat_abs, is_some, IfSome, IfNone, Some, None, Option, sym, refl, ap, ◌∙◌, subst, ap₂, ⊎_elim, arith}
+use Rattle.std.proofs.Common.{◌≡◌, ℕ, zero, suc, ◌+◌, ◌%◌, ◌≤◌, Bool, true, false, cond, not, eqb, ◌≢◌, List, ◌++◌, length, take, drop, ℤ, pos, negsuc, ◌+ℤ◌, neg_ℤ, nat_abs, is_some, IfSome, IfNone, Some, None, Option, sym, refl, ap, ◌∙◌, subst, ap₂, ⊎_elim, arith}
 use Rattle.std.proofs.lemmas.List.{length-take-le, length-append, length-drop, take_at, drop_at, take-append-drop}
 use Rattle.std.proofs.lemmas.Int.{ints}
 use Rattle.std.proofs.lemmas.Bool.{eq-eqb, ne_eqb, le-ltb, cases_eq}

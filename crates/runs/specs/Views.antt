@@ -1,19 +1,16 @@
 -- The program's runs as states, and what the calls that make a run answer.
-use Rattle.std.specs.Prelude.{◌≡◌, ℕ, ◌/◌, ltb, List, length, pos, Some, None, Ok, Err, Option, Result}
+use Rattle.std.specs.Prelude.{◌≡◌, ℕ, ◌/◌, List, length, pos, Some, None, Ok, Err, Result}
 use Rattle.std.specs.Option.{option_map}
-use Rattle.rules.specs.declared.fault.RuleFault.TheVariants.{ShortBuffer}
 use Rattle.rules.specs.Maps.{written_over}
 use Rattle.towers.specs.Towers.{Tower}
 use Rattle.towers.specs.Encodings.{encode_fault}
-use Rattle.runs.specs.declared.Call.{Call}
 use Rattle.runs.specs.declared.Told.{Told}
 use Rattle.runs.specs.declared.run.Run.{Run}
 use Rattle.runs.specs.declared.calls.Unmade.{Unmade}
-use Rattle.runs.specs.declared.fault.RunFault.{RunFault}
 use Rattle.runs.specs.declared.fault.RunFault.TheVariants.{Tower as Refused}
 use Rattle.runs.specs.States.{State, holder}
-use Rattle.runs.specs.Calls.{rule_fault, refused_if, earlier, make_fault, made}
-use Rattle.runs.specs.Laws.{Shows, SimulatesRun, ExactInverse}
+use Rattle.runs.specs.Calls.{make_fault, made}
+use Rattle.runs.specs.Laws.{Shows}
 
 -- A run with its buffers.
 abbrev pub state_of : {T : Type 0} → Run T → List ℕ → List ℕ → State

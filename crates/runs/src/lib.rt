@@ -1,4 +1,6 @@
 // Runs of a tower on a ring: make, advance, back, read, present and tell, lists of them, and the law of whole runs.
+#![tactic(auto)]
+
 mod calls;
 mod fault;
 mod lists;

@@ -1,4 +1,6 @@
 // Steps rule 110 on a ring of 2,048 cells as often as its argument says, an even number. bench/run times it against the same work in C.
+#![tactic(auto)]
+
 use rings::Direction;
 use rules::{RuleFault, Table, map_ring};
 use std::env;

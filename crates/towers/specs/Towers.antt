@@ -1,5 +1,5 @@
 -- Towers: an automaton over another, by an encoding of rings, and the laws of a tower.
-use Rattle.std.specs.Prelude.{◌≡◌, ℕ, ◌-◌, ◌*◌, ◌^◌, ◌<◌, ◌≤◌, Bool, true, false, List, length, ℤ, pos, neg_ℤ, is_some, slice_index}
+use Rattle.std.specs.Prelude.{◌≡◌, ℕ, ◌*◌, ◌^◌, ◌<◌, ◌≤◌, Bool, true, false, List, length, ℤ, pos, neg_ℤ, is_some, slice_index}
 use Rattle.rings.specs.Line.{power}
 use Rattle.rings.specs.Ring.{Ring, rotate}
 use Rattle.rings.specs.Local.{ring_map}

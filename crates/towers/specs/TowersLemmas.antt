@@ -1,5 +1,5 @@
 -- Lemmas on towers: the ground stands, and what a tower that stands does with rotations and with steps.
-use Rattle.std.specs.Prelude.{◌≡◌, ℕ, zero, suc, ◌+◌, ◌-◌, ◌*◌, ◌/◌, ◌%◌, ◌≤◌, Bool, true, false, List, length, ℤ, pos, ◌+ℤ◌, ◌*ℤ◌, neg_ℤ, slice_index, refl}
+use Rattle.std.specs.Prelude.{◌≡◌, ℕ, zero, suc, ◌+◌, ◌*◌, ◌/◌, ◌%◌, ◌≤◌, Bool, true, false, List, length, ℤ, pos, ◌+ℤ◌, ◌*ℤ◌, neg_ℤ, slice_index, refl}
 use Rattle.std.proofs.Common.{sym, ◌∙◌, div-one, mod-eq_of_lt, mul-one, one-mul, pow-suc}
 use Rattle.std.proofs.Math.Path.{ap, ap₂}
 use Rattle.std.proofs.Math.IntN.{+ℤ_invl, +ℤ_invr, ℤ_ind}

@@ -23,7 +23,7 @@ impl TowerFault {
         ensures answer { result ≡ tower_fault_number self }
     {
         match self {
-            TowerFault::Rule(fault) => fault.number(),
+            TowerFault::Rule(cause) => cause.number(),
             TowerFault::Ragged => 3,
             TowerFault::Unfit(_) => 11,
         }
@@ -34,7 +34,7 @@ impl TowerFault {
         ensures answer { result ≡ tower_fault_place self }
     {
         match self {
-            TowerFault::Rule(fault) => fault.place(),
+            TowerFault::Rule(cause) => cause.place(),
             TowerFault::Ragged => 0,
             TowerFault::Unfit(floor) => floor,
         }
@@ -52,7 +52,7 @@ impl From<RuleFault> for TowerFault {
 impl fmt::Display for TowerFault {
     fn fmt<W: fmt::Write>(&self, f: &mut fmt::Formatter<W>) -> fmt::Result {
         match self {
-            TowerFault::Rule(fault) => write!(f, "{fault}"),
+            TowerFault::Rule(cause) => write!(f, "{cause}"),
             TowerFault::Ragged => f.write_str("the number of cells is not a multiple of the block"),
             TowerFault::Unfit(floor) => write!(f, "the action of floor {floor} does not fit"),
         }

@@ -1,4 +1,6 @@
 // Towers: what every tower answers, and encoding and decoding by any tower.
+#![tactic(auto)]
+
 ghost use Rattle.std.specs.Prelude.{◌≡◌, ℕ};
 ghost use Rattle.rules.specs.Answers.{next_answer, previous_answer};
 ghost use Rattle.towers.specs.Towers.{Tower as Meaning};

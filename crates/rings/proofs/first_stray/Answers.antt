@@ -1,5 +1,5 @@
-use Rattle.std.proofs.Common.{◌≡◌, sym, ◌∙◌, subst}
-use Rattle.rings.specs.Ring.{first_stray, IsFirstStray}
+use Rattle.std.proofs.Common.{sym, ◌∙◌, subst}
+use Rattle.rings.specs.Ring.{IsFirstStray}
 use Rattle.rings.proofs.Ring.{stray_from-drop, stray_from-found, stray_from_end, is_first_stray}
 use Rattle.rings.proofs.first_stray.Goals as goal
 

@@ -1,4 +1,4 @@
-use Rattle.std.proofs.Common.{◌+◌, ◌-◌, ◌*◌, ◌/◌, ◌%◌, ◌<◌, ◌≤◌, mul-le-mul, arith}
+use Rattle.std.proofs.Common.{◌*◌, ◌/◌, ◌<◌, ◌≤◌, mul-le-mul, arith}
 use Rattle.std.proofs.lemmas.Nat.{div_below}
 use Rattle.rings.specs.declared.Direction.TheVariants.{Backward}
 use Rattle.combinators.specs.LiftsLemmas.{rejoined_lt}

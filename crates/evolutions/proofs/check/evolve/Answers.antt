@@ -1,12 +1,10 @@
-use Rattle.std.proofs.Common.{◌≡◌, ◌+◌, length, pos, vec_items, sym, ap, ◌∙◌, add-one, arith}
-use Rattle.std.specs.Vec.{with_items}
+use Rattle.std.proofs.Common.{◌≡◌, length, pos, vec_items, sym, ap, ◌∙◌, add-one, arith}
 use Rattle.std.proofs.lemmas.List.{with_items_is}
 use Rattle.rings.specs.declared.Direction.TheVariants.{Forward}
 use Rattle.rings.specs.Line.{power}
 use Rattle.rings.specs.Local.{ring_map}
 use Rattle.rings.specs.Automaton.{after}
 use Rattle.rings.proofs.Local.{length-power, power_out}
-use Rattle.rules.specs.Maps.{map_buffer}
 use Rattle.rules.proofs.Maps.{mapped_whole}
 use Rattle.evolutions.proofs.check.evolve.Goals as goal
 

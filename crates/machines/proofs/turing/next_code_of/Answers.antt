@@ -1,4 +1,4 @@
-use Rattle.std.proofs.Common.{◌≡◌, ℕ, ◌<◌, ◌≤◌, Some, None, Option, sym, ap, ◌∙◌, subst, ap₂, arith, MatchOption}
+use Rattle.std.proofs.Common.{◌≡◌, ℕ, ◌≤◌, Some, None, Option, sym, ◌∙◌, subst, ap₂, arith}
 use Rattle.std.specs.Option.{option_or}
 use Rattle.machines.specs.declared.transition.Move.TheVariants.{Left, Stay, Right}
 use Rattle.machines.specs.Turing.{next_head, arriving}

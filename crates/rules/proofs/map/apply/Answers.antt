@@ -1,8 +1,7 @@
-use Rattle.std.proofs.Common.{◌≡◌, Ok, sym, ap, ◌∙◌}
+use Rattle.std.proofs.Common.{◌≡◌, sym, ap, ◌∙◌}
 use Rattle.std.specs.Result.{result_unwrap_or}
 use Rattle.rings.specs.Automaton.{toward}
 use Rattle.rules.specs.Answers.{answer}
-use Rattle.rules.specs.Steps.{value_of}
 use Rattle.rules.proofs.Maps.{answer-reads}
 use Rattle.rules.proofs.map.apply.Goals as goal
 use Rattle.rules.proofs.map.apply.Goals.{in-Forward, in-Backward}

@@ -1,10 +1,9 @@
-use Rattle.std.proofs.Common.{◌≡◌, ℕ, length, ℤ, Some, None, sym, ap, ◌∙◌, ap₂, arith, w32, SFits, rules}
+use Rattle.std.proofs.Common.{◌≡◌, length, Some, None, sym, ap, ◌∙◌, ap₂, w32, SFits, rules}
 use Rattle.std.proofs.lemmas.Int.{to_z-of_z}
 use Rattle.rings.specs.Integers.{floor_mod}
 use Rattle.rings.specs.Local.{span}
 use Rattle.rings.specs.Automaton.{toward}
 use Rattle.rings.proofs.Automaton.{after_add}
-use Rattle.rules.specs.Answers.{ends}
 use Rattle.rules.specs.Maps.{ring_fault, map_fault, outcome, image, written_over, unless_refused}
 use Rattle.rules.proofs.Maps.{unplaced, map_fault-some, placed, mappable, step-laws}
 use Rattle.rules.proofs.map.map_ring.Goals as goal

@@ -1,4 +1,4 @@
-use Rattle.std.proofs.Common.{◌≡◌, ℕ, ◌^◌, ◌<◌, pos, nat_abs, ap, ◌∙◌, ap₂, arith, w32, SFits, to_z, of_z, rules}
+use Rattle.std.proofs.Common.{◌^◌, ◌<◌, nat_abs, ap, ◌∙◌, ap₂, arith, w32, SFits, rules}
 use Rattle.std.proofs.lemmas.Int.{to_z-of_z, to_z_pos}
 use Rattle.std.specs.Int.{int_rem_euclid}
 use Rattle.rules.proofs.Maps.{rem_euclid_floor_mod}

@@ -1,4 +1,4 @@
-use Rattle.std.proofs.Common.{◌≡◌, ℕ, ◌+◌, ◌<◌, length, get_or, pos, ◌+ℤ◌}
+use Rattle.std.proofs.Common.{◌≡◌, ℕ, ◌<◌, length, get_or, pos, ◌+ℤ◌}
 use Rattle.rings.specs.Integers.{floor_mod}
 use Rattle.rings.specs.Ring.{at}
 use Rattle.rules.proofs.map.unroll.Given as goal

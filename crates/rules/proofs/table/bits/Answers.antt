@@ -1,4 +1,4 @@
-use Rattle.std.proofs.Common.{◌≡◌, ◌%◌, ◌<◌, ◌≢◌, length, ap, ◌∙◌, arith, below_more}
+use Rattle.std.proofs.Common.{◌%◌, ◌<◌, ◌≢◌, length, ap, ◌∙◌, arith, below_more}
 use Rattle.std.proofs.lemmas.List.{length-set, get_or-set_same, get_or-set_other}
 use Rattle.rings.proofs.Line.{is_tabulate}
 use Rattle.rules.proofs.table.bits.Goals as goal

@@ -1,4 +1,4 @@
-use Rattle.std.proofs.Common.{◌≡◌, ◌-◌, ◌/◌, ◌≤◌, ◌++◌, length, drop, pos, nat_abs, sym, refl, ap, ◌∙◌, arith}
+use Rattle.std.proofs.Common.{◌≡◌, ◌-◌, ◌/◌, ◌≤◌, ◌++◌, length, drop, pos, nat_abs, refl, ap, ◌∙◌, arith}
 use Rattle.std.specs.Option.{option_map}
 use Rattle.runs.specs.declared.fault.RunFault.TheVariants.{Tower}
 use Rattle.runs.proofs.Making.{encode-refused, encode-accepted, encode_unchanged, encode-written, fitting-made, cells-few}

@@ -1,5 +1,5 @@
-use Rattle.std.proofs.Common.{◌≡◌, ◌≤◌, ◌+ℤ◌, nat_abs, None, sym, refl, ap, ◌∙◌, arith, w32, w64, SFits, to_z, of_z, rules}
-use Rattle.std.proofs.lemmas.Int.{to_z-of_z, ints}
+use Rattle.std.proofs.Common.{◌≡◌, ◌≤◌, ◌+ℤ◌, nat_abs, None, sym, refl, ap, ◌∙◌, w32, w64, SFits, to_z, of_z, rules}
+use Rattle.std.proofs.lemmas.Int.{to_z-of_z}
 use Rattle.runs.specs.States.{toward_steps, moved}
 use Rattle.runs.specs.Outcomes.{outcome, unless_refused}
 use Rattle.runs.specs.Calls.{move_fault}

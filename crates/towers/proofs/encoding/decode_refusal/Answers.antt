@@ -1,4 +1,4 @@
-use Rattle.std.proofs.Common.{◌≡◌, ◌≤◌, sym, ◌∙◌, arith}
+use Rattle.std.proofs.Common.{sym, ◌∙◌, arith}
 use Rattle.towers.proofs.Calls.{decode_fault_long, decode_fault_else, few-cells}
 use Rattle.towers.proofs.encoding.decode_refusal.Goals as goal
 

@@ -1,4 +1,4 @@
-use Rattle.std.proofs.Common.{◌≡◌, ℕ, ◌-◌, ◌*◌, ◌/◌, ◌≤◌, false, eqb, ◌++◌, length, take, drop, Some, None, sym, ap, ◌∙◌, ap₂, arith, w64, rules}
+use Rattle.std.proofs.Common.{◌≡◌, ◌-◌, ◌*◌, ◌/◌, ◌≤◌, false, eqb, ◌++◌, length, take, drop, Some, None, sym, ap, ◌∙◌, ap₂, arith, w64, rules}
 use Rattle.std.proofs.lemmas.List.{length-take-le}
 use Rattle.std.proofs.lemmas.Int.{to_z-of_z}
 use Rattle.rings.specs.Ring.{first_stray, rotate}

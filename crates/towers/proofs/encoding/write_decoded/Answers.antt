@@ -1,4 +1,4 @@
-use Rattle.std.proofs.Common.{◌≡◌, ℕ, ◌/◌, ◌%◌, ◌^◌, ◌<◌, ◌≤◌, length, get_or, sym, refl, ap, ◌∙◌, subst, ap₂, arith}
+use Rattle.std.proofs.Common.{◌≡◌, ◌/◌, ◌%◌, ◌^◌, length, get_or, sym, ap, ◌∙◌, ap₂, arith}
 use native.Mathlib.Nat.{one-le-pow}
 use Rattle.std.proofs.lemmas.List.{ext_get_or}
 use Rattle.rings.specs.Packing.{digit}

@@ -1,4 +1,4 @@
-use Rattle.std.proofs.Common.{◌≡◌, ℕ, ◌<◌, length, get_or}
+use Rattle.std.proofs.Common.{◌≡◌, ℕ, ◌<◌, get_or}
 use Rattle.towers.proofs.encoding.write_decoded.Given as goal
 
 abbrev pub invariant-loop-j : goal.invariant-loop-j

@@ -1,4 +1,4 @@
-use Rattle.std.proofs.Common.{◌≡◌, ℕ, ◌+◌, ◌*◌, ◌<◌, ◌≤◌, length, get_or, sym, refl, ◌∙◌, subst, arith}
+use Rattle.std.proofs.Common.{◌≡◌, ◌+◌, length, sym, refl, subst, arith}
 use Rattle.rules.proofs.Maps.{one_more}
 use Rattle.towers.specs.Towers.{Fitting}
 use Rattle.towers.proofs.Encodings.{Written, written_none, written_all}

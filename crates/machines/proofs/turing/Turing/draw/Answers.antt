@@ -2,7 +2,7 @@ use Rattle.std.proofs.Common.{◌≡◌, ◌-◌, ◌++◌, length, take, drop, 
 use Rattle.std.proofs.lemmas.List.{length-take-le}
 use Rattle.rings.proofs.Line.{length-tabulate}
 use Rattle.rules.specs.Maps.{outcome, written_over, unless_refused}
-use Rattle.machines.specs.Turing.{Machine, Configuration, cell, drawing}
+use Rattle.machines.specs.Turing.{Configuration, cell, drawing}
 use Rattle.machines.specs.Transitions.{listed}
 use Rattle.machines.specs.Machines.{turing_steps}
 use Rattle.machines.specs.TransitionsLemmas.{sized, proper-listed}

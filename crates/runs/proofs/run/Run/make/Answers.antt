@@ -1,4 +1,4 @@
-use Rattle.std.proofs.Common.{◌≡◌, ℕ, subst}
+use Rattle.std.proofs.Common.{subst}
 use Rattle.towers.specs.TowersLemmas.{encode-apart}
 use Rattle.runs.specs.Views.{Begins}
 use Rattle.runs.proofs.Making.{makes}

@@ -1,4 +1,4 @@
-use Rattle.std.proofs.Common.{◌≡◌, sym, refl, ap, ◌∙◌}
+use Rattle.std.proofs.Common.{◌≡◌, sym, ap, ◌∙◌}
 use Rattle.runs.specs.declared.Call.TheVariants.{Advance}
 use Rattle.runs.specs.Views.{state_of}
 use Rattle.runs.proofs.Performing.{performed_more, performed_third_more, first_refused_more, performed_end, performed_third_end, first_refused_end}
