@@ -1,3 +1,5 @@
 // Examples for the crate `combinators`, as tests.
+#![tactic(auto)]
+
 #[cfg(test)]
 mod lifts;

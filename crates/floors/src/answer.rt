@@ -4,7 +4,7 @@ ghost use Rattle.rings.specs.Automaton.{toward};
 ghost use Rattle.rules.specs.Answers.{answer};
 ghost use Rattle.floors.specs.Acting.{LawfulEnds};
 ghost use Rattle.floors.specs.Actions.{floor_or};
-ghost use Rattle.floors.specs.Asking.{blocks_of, interval, along as along-of};
+ghost use Rattle.floors.specs.Asking.{blocks_of, interval, along as along_of};
 
 use crate::Action;
 use crate::apply::{Blocks, answered, iterated, mirrored, packed};
@@ -26,7 +26,7 @@ fn interval_of(x: Numbers, direction: Direction) -> Option<(i32, i32)>
 // By how much a rotation by s moves the interval of a direction: the inverse rotates back.
 fn along(direction: Direction, s: i32) -> i32
     requires { unsigned_abs s ≤ 128 }
-    ensures value { result ≡ along-of direction s }
+    ensures value { result ≡ along_of direction s }
     ensures small { unsigned_abs result ≤ 128 }
 {
     match direction {

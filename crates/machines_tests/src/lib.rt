@@ -1,5 +1,5 @@
+// Examples for the crate `machines`, as tests.
 #![tactic(auto)]
 
-// Examples for the crate `machines`, as tests.
 #[cfg(test)]
-mod machines;
+mod turing;

@@ -1,6 +1,6 @@
+// Examples for the crate `rules`, as tests.
 #![tactic(auto)]
 
-// Examples for the crate `rules`, as tests.
 #[cfg(test)]
 mod maps;
 #[cfg(test)]

@@ -21,10 +21,10 @@ usable_room n room_a room_b room_third = cond (nat_lt room_third n) 0 (min room_
 -- What simulating c by a list of calls comes to, with the tower x, which means t: the law of whole runs, and the law of the exact inverse;
 -- or the refusal, with the tower and all buffers as they were.
 abbrev pub Simulated : {T : Type 0} → Tower → T → List ℕ → List Call → List ℕ → List ℕ → List ℕ → Result (Simulation T) (Unmade T) → List ℕ → List ℕ → List ℕ → Type 0
-Simulated t x c calls a b third (Ok sim) after_a after-b after_third =
+Simulated t x c calls a b third (Ok sim) after_a after_b after_third =
     (simulate_fault t c (length a) (length b) (length third) ≡ None)
     × (sim.run.top.0 ≡ x)
-    × SimulatesRun t c calls a b third sim.told sim.refused (state_of sim.run after_a after-b) after_third
-    × ExactInverse t c calls third (state_of sim.run after_a after-b) after_third
-Simulated t x c calls a b third (Err e) after_a after-b after_third =
-    (simulate_fault t c (length a) (length b) (length third) ≡ Some e.fault) × (e.tower ≡ x) × (after_a ≡ a) × (after-b ≡ b) × (after_third ≡ third)
+    × SimulatesRun t c calls a b third sim.told sim.refused (state_of sim.run after_a after_b) after_third
+    × ExactInverse t c calls third (state_of sim.run after_a after_b) after_third
+Simulated t x c calls a b third (Err e) after_a after_b after_third =
+    (simulate_fault t c (length a) (length b) (length third) ≡ Some e.fault) × (e.tower ≡ x) × (after_a ≡ a) × (after_b ≡ b) × (after_third ≡ third)

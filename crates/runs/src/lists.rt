@@ -1,7 +1,7 @@
 // Lists of calls on a run.
 ghost use Rattle.std.specs.Prelude.{◌≡◌, ℕ, length};
 ghost use Rattle.std.specs.Option.{option_map};
-ghost use Rattle.runs.specs.Calls.{present_fault, call_fault, called, called_third, performed, performed_third, earlier as earlier-of, refused_at, first_refused};
+ghost use Rattle.runs.specs.Calls.{present_fault, call_fault, called, called_third, performed, performed_third, earlier as earlier_of, refused_at, first_refused};
 ghost use Rattle.runs.specs.Laws.{PerformLaw};
 ghost use Rattle.runs.specs.Views.{state_of};
 
@@ -70,7 +70,7 @@ fn earlier(
     index: usize,
     fault: Option<RunFault>,
 ) -> Option<RefusedCall>
-    ensures { result ≡ earlier-of refused (option_map (refused_at index) fault) }
+    ensures { result ≡ earlier_of refused (option_map (refused_at index) fault) }
 {
     match (refused, fault) {
         (Some(first), _) => Some(first),

@@ -38,7 +38,7 @@ pub record InBlocks (q m k : ℕ) (c : List ℕ) : Type 0 where
 abbrev pub Fitting : Tower → ℕ → List ℕ → Type 0
 Fitting t k c = InBlocks t.bottom.states t.block k c
 
--- The code v stands in a ring d of k cells: in the cell p .0, and there as the digit p .1 of m digits in base q.
+-- The code v stands in a ring d of k cells: in the cell p.0, and there as the digit p.1 of m digits in base q.
 pub record DigitAt (q m k : ℕ) (d : List ℕ) (p : ℕ × ℕ) (v : ℕ) : Type 0 where
   pub cell : p.0 < k
   pub place : p.1 < m

@@ -1,7 +1,9 @@
 // Examples for the crate `towers`, as tests.
+#![tactic(auto)]
+
+#[cfg(test)]
+mod actions;
 #[cfg(test)]
 mod codes;
-#[cfg(test)]
-mod floors;
 #[cfg(test)]
 mod limits;

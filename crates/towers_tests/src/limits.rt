@@ -99,9 +99,15 @@ fn states_are_at_most_16_777_216(rt: HostRuntime) -> Result<(), Fail> {
     let packed = Ground::over(Table::new(8, 0, 1, &eight)?);
     assert_eq!(rt; refusal(packed, Action::Pack(9)), UNFIT);
     // a reduction packs the width less one
-    let nine = Floor::over(Ground::over(Table::new(8, 0, 1, &eight)?), Action::Iterate(8));
+    let nine = Floor::over(
+        Ground::over(Table::new(8, 0, 1, &eight)?),
+        Action::Iterate(8),
+    );
     assert_eq!(rt; refusal(nine, Action::Reduce), 0);
-    let ten = Floor::over(Ground::over(Table::new(8, 0, 1, &eight)?), Action::Iterate(9));
+    let ten = Floor::over(
+        Ground::over(Table::new(8, 0, 1, &eight)?),
+        Action::Iterate(9),
+    );
     assert_eq!(rt; refusal(ten, Action::Reduce), UNFIT);
     Ok(())
 }

@@ -1,4 +1,6 @@
 // Steps rule 110 through towers, and computes the worked rings: each outcome is compared with what it should be.
+#![tactic(auto)]
+
 mod climb;
 mod compute;
 mod examples;
