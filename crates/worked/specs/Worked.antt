@@ -1,5 +1,5 @@
 -- Worked rings: facts about the definitions at written numbers, together.
-use Rattle.std.specs.Prelude.{◌≡◌, ℕ, true, false, cond, List, [], ◌∷◌, ℤ, pos, negsuc, ◌*ℤ◌, neg_ℤ, ◌==◌}
+use Rattle.std.specs.Prelude.{◌≡◌, ℕ, true, false, List, [], ◌∷◌, ℤ, pos, negsuc, ◌*ℤ◌, neg_ℤ}
 use Rattle.rings.specs.Ring.{Ring, rotate}
 use Rattle.rings.specs.Local.{ring_map}
 use Rattle.rings.specs.Automaton.{Automaton, after}

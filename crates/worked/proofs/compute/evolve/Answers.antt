@@ -1,5 +1,4 @@
 use Rattle.std.proofs.Common.{◌≡◌, length, vec_items, sym, ap, ◌∙◌, add-one, arith}
-use Rattle.std.specs.Vec.{with_items}
 use Rattle.std.proofs.lemmas.List.{with_items_is}
 use Rattle.rings.specs.Line.{power}
 use Rattle.rings.specs.Automaton.{toward}
