@@ -21,7 +21,7 @@ impl RunFault {
         ensures answer { result ≡ run_fault_number self }
     {
         match self {
-            RunFault::Tower(fault) => fault.number(),
+            RunFault::Tower(cause) => cause.number(),
             RunFault::TooFar => 6,
         }
     }
@@ -31,7 +31,7 @@ impl RunFault {
         ensures answer { result ≡ run_fault_place self }
     {
         match self {
-            RunFault::Tower(fault) => fault.place(),
+            RunFault::Tower(cause) => cause.place(),
             RunFault::TooFar => 0,
         }
     }
@@ -48,7 +48,7 @@ impl From<TowerFault> for RunFault {
 impl fmt::Display for RunFault {
     fn fmt<W: fmt::Write>(&self, f: &mut fmt::Formatter<W>) -> fmt::Result {
         match self {
-            RunFault::Tower(fault) => write!(f, "{fault}"),
+            RunFault::Tower(cause) => write!(f, "{cause}"),
             RunFault::TooFar => f.write_str("the count of steps is past its limit"),
         }
     }
