@@ -5,3 +5,4 @@ pub mod Local
 pub mod Automaton
 pub mod Packing
 pub mod Transformations
+pub mod Refusals

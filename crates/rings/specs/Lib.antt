@@ -5,3 +5,5 @@ pub mod Local
 pub mod Automaton
 pub mod Packing
 pub mod Transformations
+pub mod Numbers
+pub mod Refusals

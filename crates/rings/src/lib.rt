@@ -3,7 +3,21 @@
 
 ghost use Rattle.std.specs.Prelude.{◌≡◌};
 ghost use Rattle.rings.specs.Local.{span};
+ghost use Rattle.rings.specs.Numbers.{power_within};
 ghost use Rattle.rings.specs.Ring.{first_stray, IsFirstStray};
+
+// The most cells of a ring.
+pub const MAX_CELLS: usize = 2048;
+
+// The most states of an automaton.
+pub const MAX_STATES: u32 = 16_777_216;
+
+// The least and the greatest end of an interval of cells, and the most cells that one has.
+pub const MIN_END: i32 = -128;
+
+pub const MAX_END: i32 = 128;
+
+pub const MAX_WIDTH: usize = 64;
 
 // Which way an automaton steps.
 #[derive(Clone, Copy, PartialEq, Eq, Debug)]
@@ -30,4 +44,18 @@ pub fn interval_width(lo: i32, hi: i32) -> usize
     ensures { result ≡ span lo hi }
 {
     (hi as i64 - lo as i64).unsigned_abs() as usize + 1
+}
+
+// `base` to the power `exponent`, if that is at most `limit`.
+pub fn power_within(base: u32, exponent: u32, limit: u32) -> Option<u32>
+    ensures { result ≡ power_within base exponent limit }
+{
+    base.checked_pow(exponent).filter(|power| *power <= limit)
+}
+
+// Why a call refused what it was given, and what that was.
+#[derive(Drop)]
+pub struct Refused<T, F> {
+    pub fault: F,
+    pub given: T,
 }

@@ -1,6 +1,6 @@
 -- Lemmas on the map of a whole ring.
-use Rattle.std.proofs.Common.{◌≡◌, ℕ, ◌+◌, ◌-◌, ◌<◌, ◌≤◌, Bool, true, false, cond, eqb, ltb, ◌≢◌, List, ◌++◌, length, get_or, take, drop, set, ℤ, pos, negsuc, ◌+ℤ◌, ◌*ℤ◌, nat_abs, IfSome, Some, None, Ok, Option, sym, refl, ap, ◌∙◌, subst, ap₂, zero-add, arith, below_more}
-use Rattle.std.proofs.lemmas.List.{append-nil, drop_all, get_or-set_same, get_or-set_other, drop-take, take-take}
+use Rattle.std.proofs.Common.{◌≡◌, ℕ, ◌+◌, ◌<◌, ◌≤◌, Bool, true, false, cond, eqb, ltb, ◌≢◌, List, ◌++◌, length, get_or, take, drop, set, ℤ, pos, negsuc, ◌+ℤ◌, ◌*ℤ◌, nat_abs, IfSome, Some, None, Ok, Option, sym, refl, ap, ◌∙◌, subst, ap₂, zero-add, arith, below_more}
+use Rattle.std.proofs.lemmas.List.{append-nil, drop_all, get_or-set_same, get_or-set_other}
 use Rattle.std.proofs.lemmas.Int.{ints}
 use Rattle.std.proofs.lemmas.Bool.{eqb-false, ltb-false}
 use Rattle.std.specs.Int.{int_rem_euclid}
@@ -18,7 +18,8 @@ use Rattle.rings.proofs.Local.{length-window, codes-window, length-ring_map, rin
 use Rattle.rules.specs.declared.fault.RuleFault.{RuleFault}
 use Rattle.rules.specs.declared.fault.RuleFault.TheVariants.{EmptyRing, LongRing, ShortBuffer, NoInverse}
 use Rattle.rules.specs.Answers.{ends, answer}
-use Rattle.rules.specs.Maps.{stray_fault, ring_fault, map_fault, outcome, map_answer, image, written_over, unless_refused, map_buffer, StepLaw, StepLaws}
+use Rattle.rings.specs.Refusals.{outcome, unless_refused}
+use Rattle.rules.specs.Maps.{stray_fault, ring_fault, map_fault, map_answer, image, written_over, map_buffer, StepLaw, StepLaws}
 use Rattle.rules.specs.Steps.{value_of, Reads, Placed, part}
 use Rattle.rules.specs.Windows.{checked_readable}
 
@@ -52,24 +53,18 @@ placed_inside n (Some l) start w h p = omega (arith, p.0, floor_mod_lt l.lo n h)
 
 -- the windows of an unrolled ring
 
--- a part of the first n cells
-pub part_of_front : (n w i : ℕ) (cells : List ℕ) → i + w ≤ n → part cells i w ≡ part (take n cells) i w
-part_of_front n w i cells fits =
-    let split : n ≡ i + (n - i) = omega arith in
-    sym (ap (λ k. take w (drop i (take k cells))) split ∙ ap (take w) (drop-take i (n - i) cells) ∙ take-take w (n - i) (drop i cells) (omega arith))
-
-part_of_unrolled : (c cells : List ℕ) (lo : ℤ) (i w m : ℕ) → 1 ≤ length c → i + w ≤ m → take m cells ≡ window (at c) (pos (floor_mod lo (length c))) m
+part_of_unrolled : (c cells : List ℕ) (lo : ℤ) (i w m : ℕ) → 1 ≤ length c → i + w ≤ m → cells ≡ window (at c) (pos (floor_mod lo (length c))) m
     → part cells i w ≡ window (at c) (pos i +ℤ lo) w
 part_of_unrolled c cells lo i w m some fits u =
     let n = length c in
     let start = pos (floor_mod lo n) in
-    part_of_front m w i cells fits ∙ ap (λ l. take w (drop i l)) u ∙
+    ap (λ l. take w (drop i l)) u ∙
     part_of_window (at c) start m i w fits ∙
     window_same (at c) (at c) (start +ℤ pos i) (pos i +ℤ lo) w (λ j l.
     let e : pos i +ℤ lo +ℤ pos j ≡ floor_div lo n *ℤ pos n +ℤ (start +ℤ pos i +ℤ pos j) = omega (arith, ints, floor_div_mod lo n some) in
     sym (ap (at c) e ∙ periodic_times n (at c) (periodic_at c some) (floor_div lo n) (start +ℤ pos i +ℤ pos j)))
 
-module _ (q start w : ℕ) (c cells : List ℕ) (r : Ring q c) (u : take (length c + w) cells ≡ window (at c) (pos start) (length c + w)) where
+module _ (q start w : ℕ) (c cells : List ℕ) (r : Ring q c) (u : cells ≡ window (at c) (pos start) (length c + w)) where
   -- the part at i is the window at i
   unrolled_part : (l : Local) → start ≡ floor_mod l.lo (length c) → w ≡ width l → (i : ℕ) → i < length c → part cells i w ≡ window (at c) (pos i +ℤ l.lo) (width l)
   unrolled_part l s e i h =

@@ -1,10 +1,11 @@
 -- What the call that maps a whole ring answers and writes, and the laws of one step.
-use Rattle.std.specs.Prelude.{◌≡◌, ℕ, cond, List, ◌++◌, length, drop, ℤ, pos, negsuc, IfSome, Some, None, Ok, Err, Option, Result, ◌==◌, nat_lt}
+use Rattle.std.specs.Prelude.{◌≡◌, ℕ, cond, List, ◌++◌, length, drop, ℤ, pos, negsuc, IfSome, Some, None, Option, Result, ◌==◌, nat_lt}
 use Rattle.rings.specs.declared.Direction.{Direction}
 use Rattle.rings.specs.declared.Direction.TheVariants.{Forward, Backward}
 use Rattle.rings.specs.Ring.{first_stray}
 use Rattle.rings.specs.Local.{Local, ring_map, CommutesWithRotation}
 use Rattle.rings.specs.Automaton.{Automaton, toward, after}
+use Rattle.rings.specs.Refusals.{outcome, unless_refused}
 use Rattle.rules.specs.declared.fault.RuleFault.{RuleFault}
 use Rattle.rules.specs.declared.fault.RuleFault.TheVariants.{EmptyRing, LongRing, StrayCode, ShortBuffer, NoInverse}
 
@@ -24,11 +25,6 @@ abbrev pub map_fault : ℕ → Option Local → List ℕ → ℕ → Option Rule
 map_fault q None ring room = Some NoInverse
 map_fault q (Some l) ring room = ring_fault q ring room
 
--- What a call answers that only writes.
-abbrev pub outcome : Option RuleFault → Result (Unit {0}) RuleFault
-outcome None = Ok tt
-outcome (Some f) = Err f
-
 abbrev pub map_answer : Direction → Automaton → List ℕ → List ℕ → Result (Unit {0}) RuleFault
 map_answer d a ring buffer = outcome (map_fault a.states (toward d a) ring (length buffer))
 
@@ -40,10 +36,6 @@ image (Some l) ring = ring_map l ring
 -- A list written over the first cells of a buffer; the cells after it stay.
 abbrev pub written_over : List ℕ → List ℕ → List ℕ
 written_over cells buffer = cells ++ drop (length cells) buffer
-
-abbrev pub unless_refused : Option RuleFault → List ℕ → List ℕ → List ℕ
-unless_refused None written buffer = written
-unless_refused (Some f) written buffer = buffer
 
 -- What the buffer holds afterwards: the image and the cells behind it, or all as before where the call is refused.
 abbrev pub map_buffer : Direction → Automaton → List ℕ → List ℕ → List ℕ

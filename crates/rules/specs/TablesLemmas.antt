@@ -1,10 +1,10 @@
 -- Lemmas on tables: the index of an entry, and that a table is a lawful automaton.
-use Rattle.std.specs.Prelude.{◌≡◌, ℕ, suc, ◌+◌, ◌*◌, ◌^◌, ◌<◌, ◌≤◌, Bool, true, false, cond, List, [], ◌∷◌, ◌++◌, length, take, ℤ, pos, negsuc, ◌≤ℤ◌, is_some, Some, None, Ok, Option, int_le, nat_le, slice_index, slice_index_or, refl}
+use Rattle.std.specs.Prelude.{◌≡◌, ℕ, suc, ◌+◌, ◌*◌, ◌^◌, ◌<◌, ◌≤◌, Bool, true, false, cond, List, [], ◌∷◌, ◌++◌, length, take, ℤ, pos, negsuc, ◌≤ℤ◌, is_some, Some, None, Ok, Option, int_le, slice_index, slice_index_or, refl}
 use Rattle.std.proofs.Common.{sym, ap, ◌∙◌, ⊎_elim, arith, pow-suc, add-mul, mul_assoc, mul_comm, mul-le-mul_right, add-one}
 use Rattle.std.proofs.Math.Nat.{pow-zero, pow-le-pow_right}
 use Rattle.std.proofs.lemmas.List.{length_push, take_more, length-take-le, get_or-take, get_or_past}
 use Rattle.std.proofs.lemmas.Int.{ints}
-use Rattle.std.proofs.lemmas.Bool.{lt-leb, le-leb, leb-true, and_parts, cases_lt, true≢false, eq-eqb}
+use Rattle.std.proofs.lemmas.Bool.{leb-true, and_parts, cases_lt, true≢false, eq-eqb}
 use Rattle.rings.specs.Ring.{Codes, first_stray, IsFirstStray}
 use Rattle.rings.specs.Local.{span}
 use Rattle.rings.specs.Automaton.{Lawful}
@@ -50,20 +50,6 @@ entry_index_small q ws n limit some codes few h =
     let less = entry_index_lt q (take n ws) (codes-take q n ws h codes) in
     let grows : q ^ n ≤ q ^ length ws = pow-le-pow_right some h in
     omega (arith, less, ap (λ k. q ^ k) (length-take-le n ws h))
-
--- a power that is counted up to a limit
-
-abbrev pub within : ℕ → ℕ → ℕ → Option ℕ
-within q n limit = cond (nat_le (q ^ n) limit) (Some (q ^ n)) None
-
-pub within_not : (q i n r limit : ℕ) → 1 ≤ q → i < n → r ≡ q ^ i → limit < r * q → None ≡ within q n limit
-within_not q i n r limit some h e big =
-    let grows : q ^ (i + 1) ≤ q ^ n = pow-le-pow_right some (omega arith) in
-    let far : limit < q ^ n = omega (arith, ap (λ k. k * q) e, pow_more q i) in
-    rw (lt-leb (q ^ n) limit far)
-
-pub within_is : (q n r limit : ℕ) → r ≡ q ^ n → r ≤ limit → Some r ≡ within q n limit
-within_is q n r limit e few = rw (← e, le-leb r limit few)
 
 -- a table is lawful
 

@@ -2,8 +2,10 @@
 #![tactic(auto)]
 
 ghost use Rattle.std.specs.Prelude.{◌≡◌, ℕ};
-ghost use Rattle.rings.specs.Automaton.{Automaton, Lawful};
-ghost use Rattle.rules.specs.Answers.{shape_of, ends, next_answer, previous_answer};
+ghost use Rattle.rings.specs.Automaton.{Automaton, Lawful, toward};
+ghost use Rattle.rules.specs.Answers.{shape_of, ends, answer, next_answer, previous_answer};
+
+use rings::Direction;
 
 mod fault;
 mod map;
@@ -13,7 +15,7 @@ mod window;
 pub use fault::RuleFault;
 pub use map::map_ring;
 pub use table::Table;
-pub use window::check_window;
+pub use window::{check_codes, check_window};
 
 // The number of states of a rule, and the ends of the interval of cells that it reads.
 #[derive(Clone, Copy, PartialEq, Eq, Debug)]
@@ -28,13 +30,9 @@ pub trait Rule {
     // The number of this kind of rule, as files have it.
     const KIND: u16;
 
-    ghost kind: { ℕ };
+    ghost KIND: { ℕ };
 
     ghost meaning: { Self → Automaton };
-
-    // The constant KIND.
-    fn kind_number() -> u16
-        ensures answer { result ≡ kind };
 
     fn shape(&self) -> Shape
         ensures answer { result ≡ shape_of (meaning self.now) };
@@ -52,4 +50,27 @@ pub trait Rule {
         ensures answer { result ≡ previous_answer (meaning self.now) window.now };
 
     ghost lawful: { (x : Self) → Lawful (meaning x) };
+
+    // The ends of the interval of a direction, or none where the rule does not go that way.
+    final fn interval(&self, direction: Direction) -> Option<(i32, i32)>
+        ensures answer { result ≡ ends (toward direction (meaning self.now)) }
+    {
+        match direction {
+            Direction::Forward => {
+                let shape = self.shape();
+                Some((shape.lo, shape.hi))
+            }
+            Direction::Backward => self.inverse(),
+        }
+    }
+
+    // The code of a cell one step on in a direction, from the window of the cells around it.
+    final fn step(&self, direction: Direction, window: &[u32]) -> Result<u32, RuleFault>
+        ensures answer { result ≡ answer (meaning self.now).states (toward direction (meaning self.now)) window.now }
+    {
+        match direction {
+            Direction::Forward => self.next(window),
+            Direction::Backward => self.previous(window),
+        }
+    }
 }

@@ -4,16 +4,15 @@ ghost use Rattle.rings.specs.Integers.{floor_mod};
 ghost use Rattle.rings.specs.Line.{tabulate, window};
 ghost use Rattle.rings.specs.Ring.{at, Codes};
 ghost use Rattle.rings.specs.Automaton.{toward, StepsAdd};
-ghost use Rattle.rules.specs.Answers.{ends};
+ghost use Rattle.rings.specs.Refusals.{outcome};
 ghost use Rattle.rules.specs.Maps.{ring_fault, image, written_over, map_answer, map_buffer, StepLaws};
 ghost use Rattle.rules.specs.Steps.{value_of, Reads, Placed, part};
 
-use crate::{Rule, RuleFault};
-use rings::{Direction, first_stray, interval_width};
+use crate::{Rule, RuleFault, check_codes};
+use rings::{Direction, MAX_CELLS, MAX_WIDTH, interval_width};
 
-const MAX_CELLS: usize = 2048;
 // Room for the largest ring and the widest window.
-const MAX_UNROLLED: usize = 2112;
+const MAX_UNROLLED: usize = MAX_CELLS + MAX_WIDTH;
 
 // Writes the image of a ring under one step of a rule into the first cells of a buffer.
 pub fn map_ring<R: Rule>(
@@ -27,12 +26,8 @@ pub fn map_ring<R: Rule>(
     ensures law { StepLaws direction (R.Rule.meaning rule.now) }
     ensures steps { StepsAdd (R.Rule.meaning rule.now) }
 {
-    let Some((lo, hi)) = interval(rule, direction) else {
-        return Err(RuleFault::NoInverse);
-    };
-    if let Some(fault) = refusal(ring, rule.shape().states, buffer.len()) {
-        return Err(fault);
-    }
+    let (lo, hi) = rule.interval(direction).ok_or(RuleFault::NoInverse)?;
+    check_ring(ring, rule.shape().states, buffer.len())?;
     write_image(
         rule,
         direction,
@@ -44,36 +39,20 @@ pub fn map_ring<R: Rule>(
     Ok(())
 }
 
-// The interval of a direction, if the rule has one.
-fn interval<R: Rule>(rule: &R, direction: Direction) -> Option<(i32, i32)>
-    ensures { result ≡ ends (toward direction (R.Rule.meaning rule.now)) }
-{
-    match direction {
-        Direction::Forward => {
-            let shape = rule.shape();
-            Some((shape.lo, shape.hi))
-        }
-        Direction::Backward => rule.inverse(),
-    }
-}
-
-// Why a ring is not mapped into a buffer of `room` cells, if it is not.
-fn refusal(ring: &[u32], states: u32, room: usize) -> Option<RuleFault>
-    ensures { result ≡ ring_fault states ring.now room }
+// Refuses a ring that is not mapped into a buffer of `room` cells.
+fn check_ring(ring: &[u32], states: u32, room: usize) -> Result<(), RuleFault>
+    ensures { result ≡ outcome (ring_fault states ring.now room) }
 {
     if ring.is_empty() {
-        return Some(RuleFault::EmptyRing);
+        return Err(RuleFault::EmptyRing);
     }
     if ring.len() > MAX_CELLS {
-        return Some(RuleFault::LongRing);
+        return Err(RuleFault::LongRing);
     }
     if room < ring.len() {
-        return Some(RuleFault::ShortBuffer);
+        return Err(RuleFault::ShortBuffer);
     }
-    match first_stray(ring, states) {
-        Some(index) => Some(RuleFault::StrayCode(index)),
-        None => None,
-    }
+    check_codes(ring, states)
 }
 
 // The place of a low end in a ring of n cells.
@@ -84,14 +63,14 @@ fn place_of(lo: i32, n: usize) -> usize
     lo.rem_euclid(n as i32) as usize
 }
 
-// Writes the cells of the ring from the place `start` on, round and round, over the first `count` cells.
-fn unroll(ring: &[u32], start: usize, count: usize, cells: &mut [u32])
-    requires { (start < length ring.now) × (count ≤ length cells.old) }
-    ensures { take count cells.new ≡ window (at ring.now) (pos start) count }
+// Fills cells with those of the ring from the place `start` on, round and round.
+fn unroll(ring: &[u32], start: usize, cells: &mut [u32])
+    requires { start < length ring.now }
+    ensures { cells.new ≡ window (at ring.now) (pos start) (length cells.old) }
 {
     let mut place = start;
-    for i in 0..count {
-        cells[i] = ring[place];
+    for cell in cells.iter_mut() {
+        *cell = ring[place];
         place = if place + 1 < ring.len() { place + 1 } else { 0 };
     }
 }
@@ -101,11 +80,7 @@ fn apply<R: Rule>(rule: &R, direction: Direction, window: &[u32]) -> u32
     requires { Reads (R.Rule.meaning rule.now).states (toward direction (R.Rule.meaning rule.now)) window.now }
     ensures { result ≡ value_of (toward direction (R.Rule.meaning rule.now)) window.now }
 {
-    let answer = match direction {
-        Direction::Forward => rule.next(window),
-        Direction::Backward => rule.previous(window),
-    };
-    answer.unwrap_or(0)
+    rule.step(direction, window).unwrap_or(0)
 }
 
 // Writes what a rule gives at each window of an unrolled ring, one for each cell of the buffer.
@@ -120,8 +95,8 @@ fn apply_all<R: Rule>(
     requires reads { (i : ℕ) → i < length buffer.old → Reads (R.Rule.meaning rule.now).states (toward direction (R.Rule.meaning rule.now)) (part unrolled.now i width) }
     ensures { buffer.new ≡ tabulate (λ i. value_of (toward direction (R.Rule.meaning rule.now)) (part unrolled.now i width)) (length buffer.old) }
 {
-    for i in 0..buffer.len() {
-        buffer[i] = apply(rule, direction, &unrolled[i..i + width]);
+    for (i, cell) in buffer.iter_mut().enumerate() {
+        *cell = apply(rule, direction, &unrolled[i..i + width]);
     }
 }
 
@@ -140,7 +115,8 @@ fn write_image<R: Rule>(
     ensures { buffer.new ≡ written_over (image (toward direction (R.Rule.meaning rule.now)) ring.now) buffer.old }
 {
     let n = ring.len();
-    let mut unrolled = [0; MAX_UNROLLED];
-    unroll(ring, start, n + width, &mut unrolled);
-    apply_all(rule, direction, &unrolled, width, &mut buffer[0..n]);
+    let mut store = [0; MAX_UNROLLED];
+    let unrolled = &mut store[0..n + width];
+    unroll(ring, start, unrolled);
+    apply_all(rule, direction, unrolled, width, &mut buffer[0..n]);
 }

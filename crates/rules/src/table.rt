@@ -10,17 +10,11 @@ ghost use Rattle.rules.specs.TablesLemmas.{table_lawful};
 
 use crate::window::check_window;
 use crate::{Rule, RuleFault, Shape};
-use rings::{first_stray, interval_width};
+use rings::{MAX_END, MAX_WIDTH, MIN_END, first_stray, interval_width, power_within};
 
-const MAX_STATES: u32 = 1024;
+const MAX_TABLE_STATES: u32 = 1024;
 
 const MAX_ENTRIES: usize = 1024;
-
-const MIN_END: i32 = -128;
-
-const MAX_END: i32 = 128;
-
-const MAX_WIDTH: usize = 64;
 
 const ELEMENTARY_ENTRIES: usize = 8;
 
@@ -40,10 +34,8 @@ impl Table {
     pub fn new(states: u32, lo: i32, hi: i32, entries: &[u32]) -> Result<Table, RuleFault>
         ensures answer { MatchResult result (λ t. (table_fault states lo hi entries.now ≡ None) × (stored_table t.states t.lo t.hi t.store ≡ table states lo hi entries.now)) (λ e. table_fault states lo hi entries.now ≡ Some e) }
     {
-        let Some(count) = entry_count(states, lo, hi) else {
-            return Err(RuleFault::OutOfRange);
-        };
-        if entries.len() != count {
+        let count = entry_count(states, lo, hi).ok_or(RuleFault::OutOfRange)?;
+        if entries.len() != count as usize {
             return Err(RuleFault::WrongLength);
         }
         if let Some(index) = first_stray(entries, states) {
@@ -74,15 +66,11 @@ impl Table {
 impl Rule for Table {
     const KIND: u16 = 0x0010;
 
-    ghost kind = { table_kind };
+    ghost KIND = { table_kind };
 
     ghost meaning = { λ t. stored_table t.states t.lo t.hi t.store };
 
     ghost lawful = { λ x. table_lawful x.states x.lo x.hi x.store x.fits x.closed };
-
-    fn kind_number() -> u16 {
-        Self::KIND
-    }
 
     fn shape(&self) -> Shape {
         Shape {
@@ -106,28 +94,13 @@ impl Rule for Table {
     }
 }
 
-// `base` to the power `exponent`, if that is at most `limit`.
-fn power_within(base: usize, exponent: usize, limit: usize) -> Option<usize>
-    requires { (1 ≤ base) × ((base ≤ 1024) × ((1 ≤ limit) × (limit ≤ 1024))) }
-    ensures { result ≡ (if nat_le (base ^ exponent) limit then Some (base ^ exponent) else None) }
-{
-    let mut power = 1;
-    for _i in 0..exponent {
-        power *= base;
-        if power > limit {
-            return None;
-        }
-    }
-    Some(power)
-}
-
 // How many entries a table has, if its sizes are in their ranges.
-fn entry_count(states: u32, lo: i32, hi: i32) -> Option<usize>
+fn entry_count(states: u32, lo: i32, hi: i32) -> Option<u32>
     ensures { result ≡ (if table_fits states lo hi then Some (states ^ span lo hi) else None) }
 {
     let width = interval_width(lo, hi);
     if states < 1
-        || states > MAX_STATES
+        || states > MAX_TABLE_STATES
         || lo < MIN_END
         || lo > hi
         || hi > MAX_END
@@ -135,7 +108,7 @@ fn entry_count(states: u32, lo: i32, hi: i32) -> Option<usize>
     {
         return None;
     }
-    power_within(states as usize, width, MAX_ENTRIES)
+    power_within(states, width as u32, MAX_ENTRIES as u32)
 }
 
 // The entries at the front of a store.
@@ -153,11 +126,7 @@ fn padded(entries: &[u32]) -> [u32; MAX_ENTRIES]
 fn bits(number: u8) -> [u32; ELEMENTARY_ENTRIES]
     ensures { result ≡ tabulate (bit number) 8 }
 {
-    let mut bits = [0; ELEMENTARY_ENTRIES];
-    for i in 0..ELEMENTARY_ENTRIES {
-        bits[i] = u32::from(number >> i) % 2;
-    }
-    bits
+    std::array::from_fn(|i| u32::from(number >> i) % 2)
 }
 
 // The index of the entry for a window.
@@ -166,8 +135,8 @@ fn index_of(window: &[u32], states: u32) -> usize
     ensures { result ≡ entry_index states window.now }
 {
     let mut index = 0;
-    for i in 0..window.len() {
-        index = index * states as usize + window[i] as usize;
+    for code in window {
+        index = index * states as usize + *code as usize;
     }
     index
 }

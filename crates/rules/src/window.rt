@@ -1,9 +1,20 @@
 // What every rule checks of a window.
 ghost use Rattle.std.specs.Prelude.{◌≡◌};
-ghost use Rattle.rules.specs.Answers.{checked};
+ghost use Rattle.rings.specs.Ring.{first_stray};
+ghost use Rattle.rules.specs.Answers.{checked, unless_stray};
 
 use crate::RuleFault;
 use rings::first_stray;
+
+// Refuses cells with a stray code.
+pub fn check_codes(cells: &[u32], states: u32) -> Result<(), RuleFault>
+    ensures answer { result ≡ unless_stray (first_stray states cells.now) tt }
+{
+    match first_stray(cells, states) {
+        Some(index) => Err(RuleFault::StrayCode(index)),
+        None => Ok(()),
+    }
+}
 
 // Refuses a window that has not `width` cells, and then one with a stray code.
 pub fn check_window(window: &[u32], states: u32, width: usize) -> Result<(), RuleFault>
@@ -12,8 +23,5 @@ pub fn check_window(window: &[u32], states: u32, width: usize) -> Result<(), Rul
     if window.len() != width {
         return Err(RuleFault::WrongLength);
     }
-    match first_stray(window, states) {
-        Some(index) => Err(RuleFault::StrayCode(index)),
-        None => Ok(()),
-    }
+    check_codes(window, states)
 }

@@ -1,53 +1,41 @@
-use Rattle.std.proofs.Common.{◌≡◌, length, Some, None, sym, ap, ◌∙◌, ap₂, w32, SFits, rules}
+use Rattle.std.proofs.Common.{◌≡◌, length, Some, None, Ok, sym, ap, ◌∙◌, ap₂, w32, SFits, rules}
 use Rattle.std.proofs.lemmas.Int.{to_z-of_z}
 use Rattle.rings.specs.Integers.{floor_mod}
 use Rattle.rings.specs.Local.{span}
 use Rattle.rings.specs.Automaton.{toward}
+use Rattle.rings.specs.Refusals.{outcome, unless_refused}
 use Rattle.rings.proofs.Automaton.{after_add}
-use Rattle.rules.specs.Maps.{ring_fault, map_fault, outcome, image, written_over, unless_refused}
-use Rattle.rules.proofs.Maps.{unplaced, map_fault-some, placed, mappable, step-laws}
+use Rattle.rings.proofs.Refusals.{accepted}
+use Rattle.rules.specs.Answers.{ends}
+use Rattle.rules.specs.Maps.{ring_fault, map_fault, image, written_over}
+use Rattle.rules.proofs.Maps.{map_fault-some, placed, mappable, step-laws}
 use Rattle.rules.proofs.map.map_ring.Goals as goal
 
-pub returns-in_default : goal.returns-in_default
-returns-in_default g c =
-    let a = g.R.Rule.meaning c.args.rule.now in
-    let o = toward c.args.direction a in
-    let buffer = c.args.buffer.now in
-    let f = unplaced a.states o c.args.ring.now (length buffer) c.in_default.ensures in
-    record {
-      answer = ap outcome (sym f);
-      buffer = ap (λ r. unless_refused r (written_over (image o c.args.ring.now) buffer) buffer) (sym f);
-      law = step-laws c.args.direction a;
-      steps = after_add a (g.met.R.Rule.lawful c.args.rule.now).sound;
-    }
+pub returns-in_err-lo-clause-steps : goal.returns-in_err-lo-clause-steps
+returns-in_err-lo-clause-steps g c = after_add (g.R.Rule.meaning c.args.rule.now) (g.met.R.Rule.lawful c.args.rule.now).sound
 
-pub returns-in-Some-refusal : goal.returns-in-Some-refusal
-returns-in-Some-refusal g c =
-    let a = g.R.Rule.meaning c.args.rule.now in
-    let o = toward c.args.direction a in
-    let ring = c.args.ring.now in
-    let buffer = c.args.buffer.now in
-    let f : Some c.in-Some-refusal.fault ≡ map_fault a.states o ring (length buffer) =
-    c.in-Some-refusal.ensures ∙ ap (λ s. ring_fault s.states ring (length buffer)) c.shape.ensures.answer ∙ sym (map_fault-some a.states o ring (length buffer) c.in-Some.lo c.in-Some.hi c.in-Some.ensures) in
-    record {
-      answer = ap outcome f;
-      buffer = ap (λ r. unless_refused r (written_over (image o ring) buffer) buffer) f;
-      law = step-laws c.args.direction a;
-      steps = after_add a (g.met.R.Rule.lawful c.args.rule.now).sound;
-    }
+pub returns-in_err-check_ring-clause-law : goal.returns-in_err-check_ring-clause-law
+returns-in_err-check_ring-clause-law g c = step-laws c.args.direction (g.R.Rule.meaning c.args.rule.now)
+
+pub returns-in_err-check_ring-clause-steps : goal.returns-in_err-check_ring-clause-steps
+returns-in_err-check_ring-clause-steps g c = after_add (g.R.Rule.meaning c.args.rule.now) (g.met.R.Rule.lawful c.args.rule.now).sound
 
 pub write_image-requires : goal.write_image-requires
 write_image-requires g c =
     let a = g.R.Rule.meaning c.args.rule.now in
     let o = toward c.args.direction a in
     let ring = c.args.ring.now in
-    let f : SFits w32 c.in-Some.lo = search rules in
-    let k : SFits w32 c.in-Some.hi = search rules in
-    let start : c.place_of.result ≡ floor_mod c.in-Some.lo (length ring) = c.place_of.ensures ∙ ap (λ z. floor_mod z (length ring)) (to_z-of_z w32 c.in-Some.lo f) in
-    let wide : c.interval_width.result ≡ span c.in-Some.lo c.in-Some.hi = c.interval_width.ensures ∙ ap₂ span (to_z-of_z w32 c.in-Some.lo f) (to_z-of_z w32 c.in-Some.hi k) in
-    let m = mappable a.states ring (length c.args.buffer.now) (c.in_default-refusal.ensures ∙ ap (λ s. ring_fault s.states ring (length c.args.buffer.now)) c.shape.ensures.answer) in
+    let lo = c.in_ok-lo.lo in
+    let hi = c.in_ok-lo.hi in
+    let f : SFits w32 lo = search rules in
+    let k : SFits w32 hi = search rules in
+    let has : Some (lo, hi) ≡ ends o = search rules in
+    let start : c.place_of.result ≡ floor_mod lo (length ring) = c.place_of.ensures ∙ ap (λ z. floor_mod z (length ring)) (to_z-of_z w32 lo f) in
+    let wide : c.interval_width.result ≡ span lo hi = c.interval_width.ensures ∙ ap₂ span (to_z-of_z w32 lo f) (to_z-of_z w32 hi k) in
+    let passed : Ok tt ≡ outcome (ring_fault a.states ring (length c.args.buffer.now)) = search rules in
+    let m = mappable a.states ring (length c.args.buffer.now) (accepted (ring_fault a.states ring (length c.args.buffer.now)) passed) in
     record {
-      interval = placed o (length ring) c.in-Some.lo c.in-Some.hi c.place_of.result c.interval_width.result c.in-Some.ensures start wide;
+      interval = placed o (length ring) lo hi c.place_of.result c.interval_width.result has start wide;
       sizes = (m.some, (m.few, m.fits));
       codes = m.codes;
     }
@@ -58,8 +46,10 @@ returns g c =
     let o = toward c.args.direction a in
     let ring = c.args.ring.now in
     let buffer = c.args.buffer.now in
+    let has : Some (c.in_ok-lo.lo, c.in_ok-lo.hi) ≡ ends o = search rules in
+    let passed : Ok tt ≡ outcome (ring_fault a.states ring (length buffer)) = search rules in
     let f : None ≡ map_fault a.states o ring (length buffer) =
-    c.in_default-refusal.ensures ∙ ap (λ s. ring_fault s.states ring (length buffer)) c.shape.ensures.answer ∙ sym (map_fault-some a.states o ring (length buffer) c.in-Some.lo c.in-Some.hi c.in-Some.ensures) in
+    accepted (ring_fault a.states ring (length buffer)) passed ∙ sym (map_fault-some a.states o ring (length buffer) c.in_ok-lo.lo c.in_ok-lo.hi has) in
     record {
       answer = ap outcome f;
       buffer = c.write_image.ensures ∙ ap (λ r. unless_refused r (written_over (image o ring) buffer) buffer) f;

@@ -1,15 +1,12 @@
-use Rattle.std.proofs.Common.{◌%◌, ◌<◌, ◌≢◌, length, ap, ◌∙◌, arith, below_more}
-use Rattle.std.proofs.lemmas.List.{length-set, get_or-set_same, get_or-set_other}
+use Rattle.std.proofs.Common.{◌≡◌, ℕ, get_or, rules, below_more}
+use borrow.Author.Count.{below_none}
 use Rattle.rings.proofs.Line.{is_tabulate}
+use Rattle.rules.specs.Elementary.{bit}
 use Rattle.rules.proofs.table.bits.Goals as goal
 
-pub loop-i-preserved : goal.loop-i-preserved
-loop-i-preserved c = (
-  length-set _ _ _ ∙ c.loop-i.invariant.0,
-  below_more _ _
-      (λ k h. let ne : k ≢ c.loop-i.i = omega arith in rw get_or-set_other (c.loop-i.invariant.1 k h))
-      (let lt : c.loop-i.i < length c.loop-i.bits = omega (arith, c.loop-i.invariant.0) in rw get_or-set_same (ap (λ n. n % 2) c.from.ensures)),
-)
-
 pub returns : goal.returns
-returns c = is_tabulate _ 8 c.loop-i.bits c.loop-i.invariant.0 (λ k h. c.loop-i.invariant.1 k (omega arith))
+returns c =
+    let P = λ (k : ℕ). get_or c.from_fn.result k 0 ≡ bit c.args.number k in
+    let three = below_more P 2 (below_more P 1 (below_more P 0 (below_none P) (search rules)) (search rules)) (search rules) in
+    let six = below_more P 5 (below_more P 4 (below_more P 3 three (search rules)) (search rules)) (search rules) in
+    is_tabulate (bit c.args.number) 8 c.from_fn.result c.from_fn.ensures.items.long (below_more P 7 (below_more P 6 six (search rules)) (search rules))

@@ -7,25 +7,25 @@ use Rattle.rules.proofs.table.index_of.Goals as goal
 pub overflow_mul-index : goal.overflow_mul-index
 overflow_mul-index c =
     let ws = c.args.window.now in
-    let i = c.loop-i.i in
-    let next = entry_index_more c.args.states ws i c.loop-i.index c.loop-i-test.true c.loop-i.invariant in
+    let i = c.loop-code.code-index in
+    let next = entry_index_more c.args.states ws i c.loop-code.index c.loop-code-test.true c.loop-code.invariant in
     let small = entry_index_small c.args.states ws (i + 1) 1024 c.requires.1.0 c.requires.0 c.requires.1.1 (omega arith) in
     omega arith
 
 pub overflow_add-index : goal.overflow_add-index
 overflow_add-index c =
     let ws = c.args.window.now in
-    let i = c.loop-i.i in
-    let next = entry_index_more c.args.states ws i c.loop-i.index c.loop-i-test.true c.loop-i.invariant in
+    let i = c.loop-code.code-index in
+    let next = entry_index_more c.args.states ws i c.loop-code.index c.loop-code-test.true c.loop-code.invariant in
     let small = entry_index_small c.args.states ws (i + 1) 1024 c.requires.1.0 c.requires.0 c.requires.1.1 (omega arith) in
     omega arith
 
-pub loop-i-preserved : goal.loop-i-preserved
-loop-i-preserved c = entry_index_more c.args.states c.args.window.now c.loop-i.i c.loop-i.index c.loop-i-test.true c.loop-i.invariant
+pub loop-code-preserved : goal.loop-code-preserved
+loop-code-preserved c = entry_index_more c.args.states c.args.window.now c.loop-code.code-index c.loop-code.index c.loop-code-test.true c.loop-code.invariant
 
 pub returns : goal.returns
-returns c = c.loop-i.invariant ∙ ap (entry_index c.args.states) (take_all _ _ c.loop-i-test.false)
+returns c = c.loop-code.invariant ∙ ap (entry_index c.args.states) (take_all _ _ c.loop-code-test.false)
 
-pub loop-i-init : goal.loop-i-init
+pub loop-code-init : goal.loop-code-init
 unfolding entry_index
-loop-i-init c = refl
+loop-code-init c = refl
