@@ -1,7 +1,8 @@
 -- What the calls that encode and decode a ring answer and write, and the laws of a tower for any number of steps.
-use Rattle.std.specs.Prelude.{◌≡◌, ℕ, ◌*◌, ◌/◌, ◌%◌, cond, List, length, ℤ, pos, ◌*ℤ◌, neg_ℤ, Some, None, Ok, Err, Option, Result, ◌==◌, nat_lt}
+use Rattle.std.specs.Prelude.{◌≡◌, ℕ, ◌*◌, ◌/◌, ◌%◌, cond, List, length, ℤ, pos, ◌*ℤ◌, neg_ℤ, Some, None, Option, Result, ◌==◌, nat_lt}
 use Rattle.rings.specs.Ring.{first_stray, rotate}
 use Rattle.rings.specs.Automaton.{after, Goes}
+use Rattle.rings.specs.Refusals.{outcome, unless_refused}
 use Rattle.rules.specs.declared.fault.RuleFault.TheVariants.{EmptyRing, LongRing, StrayCode, ShortBuffer}
 use Rattle.rules.specs.Maps.{written_over}
 use Rattle.towers.specs.declared.fault.TowerFault.{TowerFault}
@@ -28,14 +29,6 @@ decode_fault q m d room =
     cond (length d == 0) (Some (Rule EmptyRing))
     (cond (nat_lt 2048 (length d * m)) (Some (Rule LongRing))
     (stray_or_short (first_stray q d) (length d * m) room))
-
-abbrev pub outcome : Option TowerFault → Result (Unit {0}) TowerFault
-outcome None = Ok tt
-outcome (Some f) = Err f
-
-abbrev pub unless_refused : Option TowerFault → List ℕ → List ℕ → List ℕ
-unless_refused None written buffer = written
-unless_refused (Some f) written buffer = buffer
 
 abbrev pub encode_answer : Tower → List ℕ → List ℕ → Result (Unit {0}) TowerFault
 encode_answer t c buffer = outcome (encode_fault t.bottom.states t.block c (length buffer))

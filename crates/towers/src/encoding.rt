@@ -2,15 +2,14 @@
 ghost use Rattle.std.specs.Prelude.{◌≡◌, ◌*◌, ◌^◌, ◌<◌, ◌≤◌, length};
 ghost use Rattle.rings.specs.Integers.{floor_mod};
 ghost use Rattle.rings.specs.Ring.{Ring, first_stray, rotate};
+ghost use Rattle.rings.specs.Refusals.{outcome};
 ghost use Rattle.towers.specs.Towers.{Fitting};
 ghost use Rattle.towers.specs.Numbers.{Standing};
 ghost use Rattle.towers.specs.Encodings.{encode_fault, encode_answer, encode_buffer, decode_fault, decode_answer, decode_buffer, rotated_answer, rotated_buffer, stray_or_short, Simulates};
 
 use crate::{Numbers, Tower, TowerFault};
-use rings::first_stray;
-use rules::RuleFault;
-
-const MAX_CELLS: usize = 2048;
+use rings::MAX_CELLS;
+use rules::{RuleFault, check_codes};
 
 // Writes the encoding of a bottom ring into the first cells of a buffer.
 pub fn encode<T: Tower>(tower: &T, ring: &[u32], buffer: &mut [u32]) -> Result<(), TowerFault>
@@ -21,9 +20,7 @@ pub fn encode<T: Tower>(tower: &T, ring: &[u32], buffer: &mut [u32]) -> Result<(
 {
     let numbers = tower.numbers();
     let block = numbers.block as usize;
-    if let Some(fault) = encode_refusal(numbers.bottom, block, ring, buffer.len()) {
-        return Err(fault);
-    }
+    check_bottom(numbers.bottom, block, ring, buffer.len())?;
     write_encoded(
         tower,
         numbers.bottom,
@@ -42,9 +39,7 @@ pub fn decode<T: Tower>(tower: &T, ring: &[u32], buffer: &mut [u32]) -> Result<(
 {
     let numbers = tower.numbers();
     let block = numbers.block as usize;
-    if let Some(fault) = decode_refusal(numbers.states, block, ring, buffer.len()) {
-        return Err(fault);
-    }
+    check_top(numbers.states, block, ring, buffer.len())?;
     write_decoded(
         tower,
         numbers.bottom,
@@ -69,9 +64,7 @@ pub fn decode_rotated<T: Tower>(
     if ring.is_empty() {
         return Err(TowerFault::Rule(RuleFault::EmptyRing));
     }
-    if let Some(fault) = stray_or_short(ring, numbers.states, ring.len(), buffer.len() / block) {
-        return Err(fault);
-    }
+    check_cells(ring, numbers.states, ring.len(), buffer.len() / block)?;
     let cells = &mut buffer[0..ring.len() * block];
     write_decoded(tower, numbers.bottom, ring, cells);
     rotate_cells(rotation, cells);
@@ -95,60 +88,46 @@ fn place_of(rotation: i64, n: usize) -> usize
     (rotation as i128).rem_euclid(n as i128) as usize
 }
 
-// Why a bottom ring is not encoded into a buffer of `room` cells, if it is not.
-fn encode_refusal(states: u32, block: usize, ring: &[u32], room: usize) -> Option<TowerFault>
+// Refuses a bottom ring that is not encoded into a buffer of `room` cells.
+fn check_bottom(states: u32, block: usize, ring: &[u32], room: usize) -> Result<(), TowerFault>
     requires { 1 ≤ block }
-    ensures { result ≡ encode_fault states block ring.now room }
+    ensures { result ≡ outcome (encode_fault states block ring.now room) }
 {
     if ring.is_empty() {
-        return Some(TowerFault::Rule(RuleFault::EmptyRing));
+        return Err(TowerFault::Rule(RuleFault::EmptyRing));
     }
     if ring.len() > MAX_CELLS {
-        return Some(TowerFault::Rule(RuleFault::LongRing));
+        return Err(TowerFault::Rule(RuleFault::LongRing));
     }
     if ring.len() % block != 0 {
-        return Some(TowerFault::Ragged);
+        return Err(TowerFault::Ragged);
     }
-    stray_or_short(ring, states, ring.len() / block, room)
+    check_cells(ring, states, ring.len() / block, room)
 }
 
-// Why a top ring is not decoded into a buffer of `room` cells, if it is not.
-fn decode_refusal(states: u32, block: usize, ring: &[u32], room: usize) -> Option<TowerFault>
+// Refuses a top ring that is not decoded into a buffer of `room` cells.
+fn check_top(states: u32, block: usize, ring: &[u32], room: usize) -> Result<(), TowerFault>
     requires { 1 ≤ block }
-    ensures { result ≡ decode_fault states block ring.now room }
+    ensures { result ≡ outcome (decode_fault states block ring.now room) }
 {
     if ring.is_empty() {
-        return Some(TowerFault::Rule(RuleFault::EmptyRing));
+        return Err(TowerFault::Rule(RuleFault::EmptyRing));
     }
     if ring.len() > MAX_CELLS / block {
-        return Some(TowerFault::Rule(RuleFault::LongRing));
+        return Err(TowerFault::Rule(RuleFault::LongRing));
     }
-    stray_or_short(ring, states, ring.len() * block, room)
+    check_cells(ring, states, ring.len() * block, room)
 }
 
-// The first stray code of a ring, and else a buffer of `room` cells that has fewer than `cells`.
-fn stray_or_short(ring: &[u32], states: u32, cells: usize, room: usize) -> Option<TowerFault>
-    ensures { result ≡ stray_or_short (first_stray states ring.now) cells room }
+// Refuses a ring with a stray code, and then a buffer of `room` cells that has fewer than `cells`.
+fn check_cells(ring: &[u32], states: u32, cells: usize, room: usize) -> Result<(), TowerFault>
+    ensures { result ≡ outcome (stray_or_short (first_stray states ring.now) cells room) }
 {
-    if let Some(index) = first_stray(ring, states) {
-        return Some(TowerFault::Rule(RuleFault::StrayCode(index)));
-    }
+    check_codes(ring, states)?;
     if room < cells {
-        return Some(TowerFault::Rule(RuleFault::ShortBuffer));
+        return Err(TowerFault::Rule(RuleFault::ShortBuffer));
     }
-    None
-}
-
-// `base` to the power `exponent`.
-fn power(base: u32, exponent: usize) -> u32
-    requires { (1 ≤ base) × (base ^ exponent ≤ 2 ^ 24) }
-    ensures { result ≡ base ^ exponent }
-{
-    let mut power = 1;
-    for _i in 0..exponent {
-        power *= base;
-    }
-    power
+    Ok(())
 }
 
 // Writes the encoding of a ring that is known to be good.
@@ -157,12 +136,10 @@ fn write_encoded<T: Tower>(tower: &T, states: u32, ring: &[u32], cells: &mut [u3
     requires fitting { Fitting (T.Tower.tower tower.now) (length cells.old) ring.now }
     ensures { cells.new ≡ (T.Tower.tower tower.now).encode ring.now }
 {
-    for i in 0..cells.len() {
-        cells[i] = 0;
-    }
-    for j in 0..ring.len() {
+    cells.fill(0);
+    for (j, code) in ring.iter().enumerate() {
         if let Ok(place) = tower.place(ring.len(), j) {
-            cells[place.cell] += ring[j] * power(states, place.digit);
+            cells[place.cell] += *code * states.pow(place.digit as u32);
         }
     }
 }
@@ -175,9 +152,9 @@ fn write_decoded<T: Tower>(tower: &T, states: u32, ring: &[u32], cells: &mut [u3
     ensures { cells.new ≡ (T.Tower.tower tower.now).decode ring.now }
 {
     let n = cells.len();
-    for j in 0..n {
+    for (j, cell) in cells.iter_mut().enumerate() {
         if let Ok(place) = tower.place(n, j) {
-            cells[j] = ring[place.cell] / power(states, place.digit) % states;
+            *cell = ring[place.cell] / states.pow(place.digit as u32) % states;
         }
     }
 }

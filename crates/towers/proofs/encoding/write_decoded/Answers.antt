@@ -8,17 +8,17 @@ use Rattle.towers.proofs.Calls.{place_in, place_is_told}
 use Rattle.towers.proofs.encoding.write_decoded.Goals as goal
 use Rattle.towers.proofs.encoding.write_decoded.Goals.{in-Ok, in_default}
 
-pub power-requires : goal.power-requires
-power-requires g c =
+pub pow-requires : goal.pow-requires
+pow-requires g c =
     let t = g.T.Tower.tower c.args.tower.now in
     let p = place_in t (g.met.T.Tower.stands c.args.tower.now) (length c.args.ring.now) (length c.args.cells.now) c.loop-j.j c.args.states c.requires.good.some c.requires.size c.loop-j-test.true c.requires.states c.in-Ok.place c.in-Ok.ensures.answer in
-    (p.some, p.power)
+    omega (arith, p.power)
 
-pub nonzero_div-cells : goal.nonzero_div-cells
-nonzero_div-cells g c =
+pub nonzero_div-cell : goal.nonzero_div-cell
+nonzero_div-cell g c =
     let t = g.T.Tower.tower c.args.tower.now in
     let p = place_in t (g.met.T.Tower.stands c.args.tower.now) (length c.args.ring.now) (length c.args.cells.now) c.loop-j.j c.args.states c.requires.good.some c.requires.size c.loop-j-test.true c.requires.states c.in-Ok.place c.in-Ok.ensures.answer in
-    omega (arith, c.power.ensures, one-le-pow c.in-Ok.place.digit c.args.states p.some)
+    omega (arith, c.pow.ensures, one-le-pow c.in-Ok.place.digit c.args.states p.some)
 
 pub loop-j-preserved : goal.loop-j-preserved
 loop-j-preserved g c =
@@ -30,8 +30,8 @@ loop-j-preserved g c =
     elim c.match-place.branch [
       | in-Ok w ↦
           let p = place_in t s (length ring) n j c.args.states c.requires.good.some c.requires.size c.loop-j-test.true c.requires.states w.in-Ok.place w.in-Ok.ensures.answer in
-          let value : get_or ring w.in-Ok.place.cell 0 / w.power.result % c.args.states ≡ get_or (t.decode ring) j 0 =
-          ap₂ (λ x y. get_or ring w.in-Ok.place.cell 0 / x % y) (w.power.ensures ∙ ap (λ x. x ^ w.in-Ok.place.digit) c.requires.states) c.requires.states
+          let value : get_or ring w.in-Ok.place.cell 0 / w.pow.result % c.args.states ≡ get_or (t.decode ring) j 0 =
+          ap₂ (λ x y. get_or ring w.in-Ok.place.cell 0 / x % y) (w.pow.ensures ∙ ap (λ x. x ^ w.in-Ok.place.digit) c.requires.states) c.requires.states
           ∙ ap₂ (λ x y. digit t.bottom.states (get_or ring x 0) y) p.cell_is p.digit_is
           ∙ sym (slice_index-decode t s.laws ring c.requires.good j n c.requires.size c.loop-j-test.true) in
           λ k h. ap (λ l. get_or l k 0) w.cells-is ∙ one_more (λ i. get_or (t.decode ring) i 0) c.loop-j.cells j _ (omega (arith, c.loop-j.auto.cells, c.loop-j-test.true)) c.loop-j.invariant value k h
