@@ -1,11 +1,9 @@
 // Comparing an evolution with what was published.
-ghost use Rattle.std.specs.Prelude.{◌≡◌, ◌≤◌, length, pos, IfOk, vec_len};
-ghost use Rattle.rings.specs.Automaton.{after};
-
 use crate::vectors::{Beaver, Rows, Run};
 use machines::{Move, Turing};
+use orbits::evolve;
 use rings::Direction;
-use rules::{Rule, RuleFault, Table, map_ring};
+use rules::{RuleFault, Table};
 use std::alloc::{AllocError, Global};
 
 // A tape so long that the busy beaver does not come round, and more steps than it makes.
@@ -21,19 +19,6 @@ pub(crate) struct Difference {
     pub(crate) found: String,
 }
 
-// The ring that a rule reaches in so many steps.
-fn evolve<R: Rule>(heap: Global, rule: &R, ring: &[u32], steps: usize) -> anyhow::Result<Vec<u32>>
-    ensures { IfOk result (λ v. v.items ≡ after (R.Rule.meaning rule.now) (pos steps) ring.now) }
-{
-    let mut current = Vec::from_slice(heap, ring)?;
-    let mut next = Vec::from_slice(heap, ring)?;
-    for _step in 0..steps {
-        map_ring(rule, Direction::Forward, &current, &mut next)?;
-        std::mem::swap(&mut current, &mut next);
-    }
-    Ok(current)
-}
-
 // The busy beaver of two states, whose third state is the halt: a new machine's transitions change nothing.
 fn busy_beaver() -> Result<Turing, RuleFault> {
     let mut machine = Turing::new(2, 3)?;
@@ -46,19 +31,14 @@ fn busy_beaver() -> Result<Turing, RuleFault> {
     Ok(machine)
 }
 
-// How many symbols of a ring of the busy beaver are 1, and whether its head has halted.
-fn ones_and_halt(ring: &[u32]) -> (usize, bool) {
-    let mut ones: usize = 0;
-    let mut halted = false;
-    for code in ring {
-        if *code % 2 == 1 {
-            ones = ones.saturating_add(1);
-        }
-        if *code / 2 == 3 {
-            halted = true;
-        }
-    }
-    (ones, halted)
+// How many symbols of a ring of the busy beaver are 1.
+fn count_ones(ring: &[u32]) -> usize {
+    ring.iter().filter(|code| **code % 2 == 1).count()
+}
+
+// Whether the head on a ring of the busy beaver has halted.
+fn has_halted(ring: &[u32]) -> bool {
+    ring.iter().any(|code| *code / 2 == 3)
 }
 
 // Whether the busy beaver, on an empty circular tape, halts at the published step with the published number of ones.
@@ -67,16 +47,15 @@ pub(crate) fn check_beaver(heap: Global, published: &Beaver) -> anyhow::Result<O
     let tape = vec![in heap; 0; BEAVER_CELLS]?;
     let mut ring = vec![in heap; 0; BEAVER_CELLS]?;
     machine.draw(&tape, BEAVER_CELLS / 2, 0, &mut ring)?;
-    let mut steps: usize = 0;
+    let mut steps = MAX_BEAVER_STEPS;
     for step in 0..MAX_BEAVER_STEPS {
-        let (_, halted) = ones_and_halt(&ring);
-        if halted {
+        if has_halted(&ring) {
+            steps = step;
             break;
         }
-        ring = evolve(heap, &machine, &ring, 1)?;
-        steps = step + 1;
+        ring = evolve(heap, &machine, Direction::Forward, &ring, 1)?;
     }
-    let (ones, _) = ones_and_halt(&ring);
+    let ones = count_ones(&ring);
     if steps == published.steps && ones == published.ones {
         return Ok(None);
     }
@@ -91,29 +70,23 @@ pub(crate) fn check_beaver(heap: Global, published: &Beaver) -> anyhow::Result<O
 
 // The cells of a ring that is written with the digits 0 and 1.
 fn cells(heap: Global, text: &str) -> Result<Vec<u32>, AllocError> {
-    let mut ring = Vec::new(heap);
-    for byte in text.bytes() {
-        ring.push(u32::from(byte == b'1'))?;
-    }
-    Ok(ring)
+    text.bytes()
+        .map(|byte| u32::from(byte == b'1'))
+        .collect(heap)
 }
 
 // A ring, written with the digits 0 and 1.
 fn text(heap: Global, ring: &[u32]) -> Result<String, AllocError> {
-    let mut digits = String::new(heap);
-    for code in ring {
-        digits.push(if *code == 0 { '0' } else { '1' })?;
-    }
-    Ok(digits)
+    ring.iter()
+        .map(|code| if *code == 0 { '0' } else { '1' })
+        .collect(heap)
 }
 
 // The binary number of the cells, the first one counting most.
 fn binary(cells: &[u32]) -> u64 {
-    let mut value: u64 = 0;
-    for code in cells {
-        value = value.wrapping_mul(2).wrapping_add(u64::from(*code));
-    }
-    value
+    cells.iter().fold(0u64, |value, code| {
+        value.wrapping_mul(2).wrapping_add(u64::from(*code))
+    })
 }
 
 // The first row that is not as published, from a single 1 on a ring so wide that nothing meets behind it.
@@ -122,16 +95,11 @@ pub(crate) fn check_rows(heap: Global, published: &Rows) -> anyhow::Result<Optio
     let middle = published.values.len().saturating_add(1);
     let mut ring = vec![in heap; 0; middle]?;
     ring.push(1)?;
-    for _cell in 0..middle {
-        ring.push(0)?;
-    }
+    ring.resize(middle.saturating_mul(2).saturating_add(1), 0)?;
     for (row, expected) in published.values.iter().enumerate() {
-        let found = match ring.get(
-            middle.saturating_sub(row)..middle.saturating_add(row).saturating_add(1),
-        ) {
-            Some(cells) => binary(cells),
-            None => 0,
-        };
+        let found = ring
+            .get(middle.saturating_sub(row)..middle.saturating_add(row).saturating_add(1))
+            .map_or(0, |cells| binary(cells));
         if found != *expected {
             let expected = format!(in heap; "{expected}")?;
             let found = format!(in heap; "{found}")?;
@@ -141,7 +109,7 @@ pub(crate) fn check_rows(heap: Global, published: &Rows) -> anyhow::Result<Optio
                 found,
             }));
         }
-        ring = evolve(heap, &rule, &ring, 1)?;
+        ring = evolve(heap, &rule, Direction::Forward, &ring, 1)?;
     }
     Ok(None)
 }
@@ -149,7 +117,7 @@ pub(crate) fn check_rows(heap: Global, published: &Rows) -> anyhow::Result<Optio
 // Whether the last ring is as published.
 pub(crate) fn check_run(heap: Global, run: &Run) -> anyhow::Result<Option<Difference>> {
     let first = cells(heap, run.first)?;
-    let last = evolve(heap, &Table::elementary(run.rule), &first, run.steps)?;
+    let last = evolve(heap, &Table::elementary(run.rule), Direction::Forward, &first, run.steps)?;
     let found = text(heap, &last)?;
     if found.as_str() == run.last {
         return Ok(None);

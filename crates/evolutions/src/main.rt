@@ -42,14 +42,14 @@ fn run(rt: &HostRuntime) -> anyhow::Result<()> {
         agree: 0,
         differ: 0,
     };
-    for published in ROWS.iter() {
+    for published in &ROWS {
         let rule = published.rule;
         let count = published.values.len();
         let sequence = published.sequence;
         print!(rt; "rule {rule:3}, {count:2} rows from a single cell, OEIS {sequence}: ")?;
         totals.tell(rt, check_rows(rt.alloc(), published)?)?;
     }
-    for published in RUNS.iter() {
+    for published in &RUNS {
         let rule = published.rule;
         let cells = published.first.len();
         let steps = published.steps;

@@ -1,5 +1,5 @@
 -- What a rule means: a cellular automaton, its laws, and its steps forward and back.
-use Rattle.std.specs.Prelude.{◌≡◌, ℕ, suc, ◌^◌, ◌≤◌, List, ℤ, pos, negsuc, ◌+ℤ◌, ◌≤ℤ◌, IfSome, IfNone, Some, None, Option}
+use Rattle.std.specs.Prelude.{◌≡◌, ℕ, suc, ◌^◌, ◌≤◌, List, ℤ, pos, negsuc, neg_ℤ, ◌+ℤ◌, ◌≤ℤ◌, IfSome, IfNone, Some, None, Option}
 use Rattle.rings.specs.declared.Direction.{Direction}
 use Rattle.rings.specs.declared.Direction.TheVariants.{Forward, Backward}
 use Rattle.rings.specs.Line.{power}
@@ -50,6 +50,11 @@ pub record Lawful (a : Automaton) : Type 0 where
 abbrev pub toward : Direction → Automaton → Option Local
 toward Forward a = Some a.forward
 toward Backward a = a.inverse
+
+-- n steps of a direction, as a number of steps.
+abbrev pub toward_steps : Direction → ℕ → ℤ
+toward_steps Forward n = pos n
+toward_steps Backward n = neg_ℤ (pos n)
 
 -- n steps of the inverse; without one, nothing happens.
 abbrev pub undone : Option Local → ℕ → List ℕ → List ℕ

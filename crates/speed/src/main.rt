@@ -18,11 +18,9 @@ fn ones_after(
         map_ring(rule, Direction::Forward, even, odd)?;
         map_ring(rule, Direction::Forward, odd, even)?;
     }
-    let mut ones: u32 = 0;
-    for code in even {
-        ones = ones.saturating_add(*code);
-    }
-    Ok(ones)
+    Ok(even
+        .iter()
+        .fold(0u32, |ones, code| ones.saturating_add(*code)))
 }
 
 fn run(rt: &HostRuntime) -> anyhow::Result<()> {
