@@ -1,9 +1,10 @@
 -- Lemmas on division of an integer by a natural number, rounded towards minus infinity.
-use Rattle.std.proofs.Common.{◌≡◌, ℕ, ◌+◌, ◌-◌, ◌*◌, ◌/◌, ◌%◌, ◌<◌, ◌≤◌, ℤ, pos, negsuc, ◌+ℤ◌, ◌*ℤ◌, ◌≤ℤ◌, sym, ap, ◌∙◌, mul-le-mul_right, mod-lt, div-add-mod', arith}
+use Rattle.std.proofs.Common.{◌≡◌, ℕ, ◌+◌, ◌-◌, ◌*◌, ◌/◌, ◌%◌, ◌<◌, ◌≤◌, ℤ, nat_abs, pos, negsuc, ◌+ℤ◌, ◌*ℤ◌, ◌≤ℤ◌, refl, sym, ap, ◌∙◌, mul-le-mul_right, mod-lt, div-add-mod', arith}
 use lib.IntN.{+ℤ_comm}
 use lib.Arith.{digits_div, digits_mod}
 use Rattle.std.proofs.lemmas.Int.{ints, by_lt_z}
 use borrow.Author.Differences.{up, down, sum_is_lem}
+use Rattle.std.specs.Int.{int_rem_euclid}
 use Rattle.rings.specs.Integers.{floor_div, floor_mod}
 
 pub times_sum : (a b : ℤ) (m : ℕ) → (a +ℤ b) *ℤ pos m ≡ a *ℤ pos m +ℤ b *ℤ pos m
@@ -78,3 +79,9 @@ floor_div_le a b m h o = by_parts (floor_div a m) (floor_div b m) (floor_mod a m
   by_parts j k r s e f l = by_lt_z k j
       (λ lt. let t : up k + down j + 1 ≤ up j + down k = omega (arith, ints) in absurd (omega (arith, ints, mul-le-mul_right m t)))
       (λ le. le)
+
+-- the remainder that the machine computes
+pub rem_euclid_floor_mod : (z : ℤ) (n : ℕ) → nat_abs (int_rem_euclid z (pos n)) ≡ floor_mod z n
+unfolding floor_mod
+rem_euclid_floor_mod (pos a) n = refl
+rem_euclid_floor_mod (negsuc a) n = refl

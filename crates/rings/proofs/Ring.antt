@@ -3,10 +3,10 @@ use Rattle.std.proofs.Common.{◌≡◌, ℕ, zero, suc, ◌+◌, ◌-◌, ◌%�
 use mathlib.Core.Path.{fun_ext}
 use Rattle.std.proofs.lemmas.List.{get_or-reverse, length-reverse, at_drop_more, at_drop_all}
 use Rattle.std.proofs.lemmas.Int.{ints}
-use Rattle.std.proofs.lemmas.Bool.{lt-ltb, le-ltb, ltb-true, ltb-false}
+use Rattle.std.proofs.lemmas.Bool.{ne_eqb, lt-ltb, le-ltb, ltb-true, ltb-false}
 use Rattle.rings.specs.Integers.{floor_div, floor_mod}
 use Rattle.rings.specs.Line.{Line, rotate_line, reflect_line, Periodic, Below}
-use Rattle.rings.specs.Ring.{at, cut, Codes, Ring, rotate, reflect, stray_from, first_stray, StrayAt, IsFirstStray}
+use Rattle.rings.specs.Ring.{at, cut, Codes, Ring, rotate, reflect, stray_from, first_stray, StrayAt, IsFirstStray, cell_at}
 use Rattle.rings.proofs.Integers.{floor_mod_lt, floor_mod_turns, floor_div_mod, floor_mod_add}
 use Rattle.rings.proofs.Line
 
@@ -159,3 +159,7 @@ stray_from-found i q c h l = at_drop_more (stray_from i q) c i 0 h ∙ rw (le-lt
 
 pub stray_from_end : (i q : ℕ) (c : List ℕ) → length c ≤ i → stray_from i q (drop i c) ≡ None
 stray_from_end i q c h = at_drop_all (stray_from i q) c i h
+
+-- in a ring that has a cell
+pub cell_at-some : (z : ℤ) (n : ℕ) → 0 < n → cell_at z n ≡ floor_mod z n
+cell_at-some z n h = rw (ne_eqb n 0 (λ e. omega (arith, e)))

@@ -1,5 +1,5 @@
 -- Rings: lists of codes, indexed modulo their length.
-use Rattle.std.specs.Prelude.{ℕ, ◌+◌, ◌<◌, ◌≤◌, cond, List, [], ◌∷◌, length, take, ℤ, pos, Some, None, Option, nat_lt, slice_index}
+use Rattle.std.specs.Prelude.{ℕ, ◌+◌, ◌<◌, ◌≤◌, cond, List, [], ◌∷◌, length, take, ℤ, pos, Some, None, Option, ◌==◌, nat_lt, slice_index}
 use Rattle.rings.specs.Integers.{floor_mod}
 use Rattle.rings.specs.Line.{Line, window, rotate_line, reflect_line}
 
@@ -10,6 +10,10 @@ at c z = slice_index c (floor_mod z (length c))
 -- The first n cells of a line, from 0 on.
 abbrev pub cut : ℕ → Line → List ℕ
 cut n x = window x (pos 0) n
+
+-- The index of the cell that lies z cells after the first one of a ring of n cells; 0 where there is no cell.
+abbrev pub cell_at : ℤ → ℕ → ℕ
+cell_at z n = cond (n == 0) 0 (floor_mod z n)
 
 -- Every code of the list is below q.
 abbrev pub Codes : ℕ → List ℕ → Type 0

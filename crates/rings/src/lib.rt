@@ -4,7 +4,7 @@
 ghost use Rattle.std.specs.Prelude.{◌≡◌};
 ghost use Rattle.rings.specs.Local.{span};
 ghost use Rattle.rings.specs.Numbers.{power_within};
-ghost use Rattle.rings.specs.Ring.{first_stray, IsFirstStray};
+ghost use Rattle.rings.specs.Ring.{first_stray, IsFirstStray, cell_at};
 
 // The most cells of a ring.
 pub const MAX_CELLS: usize = 2048;
@@ -37,6 +37,16 @@ pub fn first_stray(cells: &[u32], states: u32) -> Option<usize>
         }
     }
     None
+}
+
+// The index of the cell that lies `offset` cells after the first one of a ring, round and round; 0 where there is no cell.
+pub fn cell_at(offset: i64, cells: usize) -> usize
+    ensures { result ≡ cell_at offset cells }
+{
+    if cells == 0 {
+        return 0;
+    }
+    i128::from(offset).rem_euclid(cells as i128) as usize
 }
 
 // How many cells an interval has, its ends given in either order.

@@ -23,13 +23,6 @@ use Rattle.rules.specs.Maps.{stray_fault, ring_fault, map_fault, map_answer, ima
 use Rattle.rules.specs.Steps.{value_of, Reads, Placed, part}
 use Rattle.rules.specs.Windows.{checked_readable}
 
--- the place of the first cell
-
-pub rem_euclid_floor_mod : (z : ℤ) (n : ℕ) → nat_abs (int_rem_euclid z (pos n)) ≡ floor_mod z n
-unfolding floor_mod
-rem_euclid_floor_mod (pos a) n = refl
-rem_euclid_floor_mod (negsuc a) n = refl
-
 -- the local function of a direction
 
 -- its interval is in order and narrow, and it is closed

@@ -9,7 +9,7 @@ ghost use Rattle.rules.specs.Maps.{ring_fault, image, written_over, map_answer, 
 ghost use Rattle.rules.specs.Steps.{value_of, Reads, Placed, part};
 
 use crate::{Rule, RuleFault, check_codes};
-use rings::{Direction, MAX_CELLS, MAX_WIDTH, interval_width};
+use rings::{Direction, MAX_CELLS, MAX_WIDTH, cell_at, interval_width};
 
 // Room for the largest ring and the widest window.
 const MAX_UNROLLED: usize = MAX_CELLS + MAX_WIDTH;
@@ -31,7 +31,7 @@ pub fn map_ring<R: Rule>(
     write_image(
         rule,
         direction,
-        place_of(lo, ring.len()),
+        cell_at(i64::from(lo), ring.len()),
         interval_width(lo, hi),
         ring,
         buffer,
@@ -53,14 +53,6 @@ fn check_ring(ring: &[u32], states: u32, room: usize) -> Result<(), RuleFault>
         return Err(RuleFault::ShortBuffer);
     }
     check_codes(ring, states)
-}
-
-// The place of a low end in a ring of n cells.
-fn place_of(lo: i32, n: usize) -> usize
-    requires { (0 < n) × (n ≤ 2048) }
-    ensures { result ≡ floor_mod lo n }
-{
-    lo.rem_euclid(n as i32) as usize
 }
 
 // Fills cells with those of the ring from the place `start` on, round and round.

@@ -1,6 +1,5 @@
 // Encoding a bottom ring as a top ring, and decoding a top ring.
 ghost use Rattle.std.specs.Prelude.{◌≡◌, ◌*◌, ◌^◌, ◌<◌, ◌≤◌, length};
-ghost use Rattle.rings.specs.Integers.{floor_mod};
 ghost use Rattle.rings.specs.Ring.{Ring, first_stray, rotate};
 ghost use Rattle.rings.specs.Refusals.{outcome};
 ghost use Rattle.towers.specs.Towers.{Fitting};
@@ -8,7 +7,7 @@ ghost use Rattle.towers.specs.Numbers.{Standing};
 ghost use Rattle.towers.specs.Encodings.{encode_fault, encode_answer, encode_buffer, decode_fault, decode_answer, decode_buffer, rotated_answer, rotated_buffer, stray_or_short, Simulates};
 
 use crate::{Numbers, Tower, TowerFault};
-use rings::MAX_CELLS;
+use rings::{MAX_CELLS, cell_at};
 use rules::{RuleFault, check_codes};
 
 // Writes the encoding of a bottom ring into the first cells of a buffer.
@@ -76,16 +75,7 @@ fn rotate_cells(rotation: i64, ring: &mut [u32])
     requires { 1 ≤ length ring.old }
     ensures { ring.new ≡ rotate rotation ring.old }
 {
-    let place = place_of(rotation, ring.len());
-    ring.rotate_left(place);
-}
-
-// The cell of a ring of n cells that is this many cells after the first.
-fn place_of(rotation: i64, n: usize) -> usize
-    requires { 1 ≤ n }
-    ensures { result ≡ floor_mod rotation n }
-{
-    (rotation as i128).rem_euclid(n as i128) as usize
+    ring.rotate_left(cell_at(rotation, ring.len()));
 }
 
 // Refuses a bottom ring that is not encoded into a buffer of `room` cells.

@@ -1,10 +1,12 @@
-use Rattle.std.proofs.Common.{◌≡◌, length, Some, None, Ok, sym, ap, ◌∙◌, ap₂, w32, SFits, rules}
+use Rattle.std.proofs.Common.{◌≡◌, length, Some, None, Ok, sym, ap, ◌∙◌, ap₂, w32, w64, SFits, rules}
 use Rattle.std.proofs.lemmas.Int.{to_z-of_z}
 use Rattle.rings.specs.Integers.{floor_mod}
+use Rattle.rings.specs.Ring.{cell_at}
 use Rattle.rings.specs.Local.{span}
 use Rattle.rings.specs.Automaton.{toward}
 use Rattle.rings.specs.Refusals.{outcome, unless_refused}
 use Rattle.rings.proofs.Automaton.{after_add}
+use Rattle.rings.proofs.Ring.{cell_at-some}
 use Rattle.rings.proofs.Refusals.{accepted}
 use Rattle.rules.specs.Answers.{ends}
 use Rattle.rules.specs.Maps.{ring_fault, map_fault, image, written_over}
@@ -29,13 +31,15 @@ write_image-requires g c =
     let hi = c.in_ok-lo.hi in
     let f : SFits w32 lo = search rules in
     let k : SFits w32 hi = search rules in
+    let long : SFits w64 c.from.result = search rules in
     let has : Some (lo, hi) ≡ ends o = search rules in
-    let start : c.place_of.result ≡ floor_mod lo (length ring) = c.place_of.ensures ∙ ap (λ z. floor_mod z (length ring)) (to_z-of_z w32 lo f) in
     let wide : c.interval_width.result ≡ span lo hi = c.interval_width.ensures ∙ ap₂ span (to_z-of_z w32 lo f) (to_z-of_z w32 hi k) in
     let passed : Ok tt ≡ outcome (ring_fault a.states ring (length c.args.buffer.now)) = search rules in
     let m = mappable a.states ring (length c.args.buffer.now) (accepted (ring_fault a.states ring (length c.args.buffer.now)) passed) in
+    let start : c.cell_at.result ≡ floor_mod lo (length ring) =
+    c.cell_at.ensures ∙ ap (λ z. cell_at z (length ring)) (to_z-of_z w64 c.from.result long ∙ c.from.ensures ∙ to_z-of_z w32 lo f) ∙ cell_at-some lo (length ring) m.some in
     record {
-      interval = placed o (length ring) lo hi c.place_of.result c.interval_width.result has start wide;
+      interval = placed o (length ring) lo hi c.cell_at.result c.interval_width.result has start wide;
       sizes = (m.some, (m.few, m.fits));
       codes = m.codes;
     }
