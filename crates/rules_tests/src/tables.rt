@@ -6,10 +6,7 @@ use std::test::Fail;
 fn refusal(states: u32, lo: i32, hi: i32, count: usize) -> Option<RuleFault> {
     let zeros = [0; 2048];
     let count = count.min(2048);
-    match Table::new(states, lo, hi, &zeros[0..count]) {
-        Ok(_) => None,
-        Err(fault) => Some(fault),
-    }
+    Table::new(states, lo, hi, &zeros[0..count]).err()
 }
 
 #[test]
@@ -77,7 +74,7 @@ fn a_table_has_no_inverse(rt: HostRuntime) {
     assert_eq!(rt; table.inverse(), None);
     assert_eq!(rt; table.previous(&[0, 0, 0]), Err(RuleFault::NoInverse));
     assert_eq!(rt; table.previous(&[9]), Err(RuleFault::NoInverse));
-    assert_eq!(rt; <Table as Rule>::kind_number(), 0x0010);
+    assert_eq!(rt; <Table as Rule>::KIND, 0x0010);
 }
 
 #[test]

@@ -4,45 +4,41 @@ use rules::Table;
 use std::test::Fail;
 use towers::{Ground, Place, Tower};
 
-// The number of the fault with which an action is refused, or 0.
-fn refusal(number: u16, argument: i16) -> u16 {
-    match Action::new(number, argument) {
-        Ok(_) => 0,
-        Err(fault) => fault.number(),
-    }
+// The number of the fault with which an action is refused, if it is.
+fn refusal(number: u16, argument: i16) -> Option<u16> {
+    Action::new(number, argument)
+        .err()
+        .map(|fault| fault.number())
 }
 
-// The number of the fault with which a place is refused, or 0.
-fn place_refusal<T: Tower>(tower: &T, n: usize, j: usize) -> u16 {
-    match tower.place(n, j) {
-        Ok(_) => 0,
-        Err(fault) => fault.number(),
-    }
+// The number of the fault with which a place is refused, if it is.
+fn place_refusal<T: Tower>(tower: &T, n: usize, j: usize) -> Option<u16> {
+    tower.place(n, j).err().map(|fault| fault.number())
 }
 
-// The number and the argument of an action, and the number of its refusal, or 0.
-const ACTIONS: [(u16, i16, u16); 21] = [
-    (0, 0, 0),
-    (0, 1, 9),
-    (1, -17, 9),
-    (1, 0, 9),
-    (1, 1, 0),
-    (1, 16, 0),
-    (1, 17, 9),
-    (2, -17, 9),
-    (2, 0, 9),
-    (2, 1, 0),
-    (2, 16, 0),
-    (2, 17, 9),
-    (3, -17, 9),
-    (3, -16, 0),
-    (3, 16, 0),
-    (3, 17, 9),
-    (4, 0, 0),
-    (4, 1, 9),
-    (5, 0, 0),
-    (5, 1, 9),
-    (6, 0, 9),
+// The number and the argument of an action, and the number of its refusal, if there is one.
+const ACTIONS: [(u16, i16, Option<u16>); 21] = [
+    (0, 0, None),
+    (0, 1, Some(9)),
+    (1, -17, Some(9)),
+    (1, 0, Some(9)),
+    (1, 1, None),
+    (1, 16, None),
+    (1, 17, Some(9)),
+    (2, -17, Some(9)),
+    (2, 0, Some(9)),
+    (2, 1, None),
+    (2, 16, None),
+    (2, 17, Some(9)),
+    (3, -17, Some(9)),
+    (3, -16, None),
+    (3, 16, None),
+    (3, 17, Some(9)),
+    (4, 0, None),
+    (4, 1, Some(9)),
+    (5, 0, None),
+    (5, 1, Some(9)),
+    (6, 0, Some(9)),
 ];
 
 #[test]
@@ -50,25 +46,25 @@ fn an_action_has_a_number_and_a_range(rt: HostRuntime) {
     for (number, argument, fault) in ACTIONS {
         match Action::new(number, argument) {
             Ok(action) => {
-                assert_eq!(rt; fault, 0);
+                assert_eq!(rt; fault, None);
                 assert_eq!(rt; action.number(), number);
             }
-            Err(refusal) => assert_eq!(rt; refusal.number(), fault),
+            Err(refusal) => assert_eq!(rt; Some(refusal.number()), fault),
         }
     }
 }
 
 #[test]
 fn an_action_has_bounds(rt: HostRuntime) -> Result<(), Fail> {
-    assert_eq!(rt; refusal(6, 0), 9);
-    assert_eq!(rt; refusal(0, 1), 9);
-    assert_eq!(rt; refusal(4, 1), 9);
-    assert_eq!(rt; refusal(5, 1), 9);
-    assert_eq!(rt; refusal(1, 0), 9);
-    assert_eq!(rt; refusal(1, 17), 9);
-    assert_eq!(rt; refusal(2, 17), 9);
-    assert_eq!(rt; refusal(3, 17), 9);
-    assert_eq!(rt; refusal(3, -17), 9);
+    assert_eq!(rt; refusal(6, 0), Some(9));
+    assert_eq!(rt; refusal(0, 1), Some(9));
+    assert_eq!(rt; refusal(4, 1), Some(9));
+    assert_eq!(rt; refusal(5, 1), Some(9));
+    assert_eq!(rt; refusal(1, 0), Some(9));
+    assert_eq!(rt; refusal(1, 17), Some(9));
+    assert_eq!(rt; refusal(2, 17), Some(9));
+    assert_eq!(rt; refusal(3, 17), Some(9));
+    assert_eq!(rt; refusal(3, -17), Some(9));
     let Ok(pack) = Action::new(1, 16) else {
         return Err(Fail::new("no pack"));
     };
@@ -114,18 +110,18 @@ fn a_floor_that_does_not_fit_brings_the_tower_back(rt: HostRuntime) -> Result<()
     let Ok(first) = Floor::build(ground, Action::Pack(16), 1) else {
         return Err(Fail::new("no pack"));
     };
-    let Err(unbuilt) = Floor::build(first, Action::Pack(16), 2) else {
+    let Err(refused) = Floor::build(first, Action::Pack(16), 2) else {
         return Err(Fail::new("built"));
     };
-    assert_eq!(rt; unbuilt.fault.number(), 11);
-    assert_eq!(rt; unbuilt.fault.place(), 2);
-    let numbers = unbuilt.below.numbers();
+    assert_eq!(rt; refused.fault.number(), 11);
+    assert_eq!(rt; refused.fault.place(), 2);
+    let numbers = refused.given.numbers();
     assert_eq!(rt; numbers.states, 65_536);
     assert_eq!(rt; numbers.lo, -1);
     assert_eq!(rt; numbers.hi, 1);
     assert_eq!(rt; numbers.block, 16);
     // a floor that is put over it all the same does nothing
-    let same = Floor::over(unbuilt.below, Action::Pack(16)).numbers();
+    let same = Floor::over(refused.given, Action::Pack(16)).numbers();
     assert_eq!(rt; same.states, 65_536);
     assert_eq!(rt; same.lo, -1);
     assert_eq!(rt; same.hi, 1);
@@ -141,10 +137,10 @@ fn a_floor_that_does_not_fit_brings_the_tower_back(rt: HostRuntime) -> Result<()
 #[test]
 fn a_bottom_cell_has_a_place(rt: HostRuntime) -> Result<(), Fail> {
     let packed = Floor::over(Ground::over(Table::elementary(110)), Action::Pack(3));
-    assert_eq!(rt; place_refusal(&packed, 0, 0), 1);
-    assert_eq!(rt; place_refusal(&packed, 4, 0), 3);
-    assert_eq!(rt; place_refusal(&packed, 4, 4), 3);
-    assert_eq!(rt; place_refusal(&packed, 6, 6), 9);
+    assert_eq!(rt; place_refusal(&packed, 0, 0), Some(1));
+    assert_eq!(rt; place_refusal(&packed, 4, 0), Some(3));
+    assert_eq!(rt; place_refusal(&packed, 4, 4), Some(3));
+    assert_eq!(rt; place_refusal(&packed, 6, 6), Some(9));
     let Ok(place) = packed.place(6, 5) else {
         return Err(Fail::new("no place"));
     };

@@ -2,7 +2,7 @@
 use combinators::Lift;
 use floors::{Action, Floor};
 use rings::Direction;
-use rules::{RuleFault, Table, map_ring};
+use rules::{Rule, RuleFault, Table, map_ring};
 use std::test::Fail;
 use towers::{Ground, Tower, TowerFault, decode, encode};
 
@@ -25,12 +25,9 @@ fn step_twice(direction: Direction) -> Result<[u32; 10], RuleFault> {
     Ok(twice)
 }
 
-// The number and the place of a refusal, or 0 and 0.
-fn refusal(answer: Result<(), TowerFault>) -> (u16, usize) {
-    match answer {
-        Ok(()) => (0, 0),
-        Err(fault) => (fault.number(), fault.place()),
-    }
+// The number and the place of a refusal, if there is one.
+fn refusal(answer: Result<(), TowerFault>) -> Option<(u16, usize)> {
+    answer.err().map(|fault| (fault.number(), fault.place()))
 }
 
 #[test]
@@ -63,12 +60,12 @@ fn rule_110_reduced(rt: HostRuntime) -> Result<(), Fail> {
 fn a_refused_encoding_leaves_the_buffer(rt: HostRuntime) -> Result<(), Fail> {
     let floor = Floor::over(Ground::over(Table::elementary(110)), Action::Pack(3));
     let mut buffer = [9; 1];
-    assert_eq!(rt; refusal(encode(&floor, &[], &mut buffer)), (1, 0));
-    assert_eq!(rt; refusal(encode(&floor, &[0, 2, 0, 0], &mut buffer)), (3, 0));
+    assert_eq!(rt; refusal(encode(&floor, &[], &mut buffer)), Some((1, 0)));
+    assert_eq!(rt; refusal(encode(&floor, &[0, 2, 0, 0], &mut buffer)), Some((3, 0)));
     let stray = encode(&floor, &[0, 2, 0, 0, 0, 0], &mut buffer);
-    assert_eq!(rt; refusal(stray), (4, 1));
+    assert_eq!(rt; refusal(stray), Some((4, 1)));
     let short = encode(&floor, &[0, 1, 0, 0, 0, 0], &mut buffer);
-    assert_eq!(rt; refusal(short), (5, 0));
+    assert_eq!(rt; refusal(short), Some((5, 0)));
     assert_eq!(rt; buffer, [9]);
     encode(&floor, &[0, 1, 1], &mut buffer)?;
     assert_eq!(rt; buffer, [6]);
@@ -79,9 +76,9 @@ fn a_refused_encoding_leaves_the_buffer(rt: HostRuntime) -> Result<(), Fail> {
 fn a_refused_decoding_leaves_the_buffer(rt: HostRuntime) -> Result<(), Fail> {
     let floor = Floor::over(Ground::over(Table::elementary(110)), Action::Pack(3));
     let mut buffer = [9; 4];
-    assert_eq!(rt; refusal(decode(&floor, &[], &mut buffer)), (1, 0));
-    assert_eq!(rt; refusal(decode(&floor, &[7, 8], &mut buffer)), (4, 1));
-    assert_eq!(rt; refusal(decode(&floor, &[7, 6], &mut buffer)), (5, 0));
+    assert_eq!(rt; refusal(decode(&floor, &[], &mut buffer)), Some((1, 0)));
+    assert_eq!(rt; refusal(decode(&floor, &[7, 8], &mut buffer)), Some((4, 1)));
+    assert_eq!(rt; refusal(decode(&floor, &[7, 6], &mut buffer)), Some((5, 0)));
     assert_eq!(rt; buffer, [9, 9, 9, 9]);
     decode(&floor, &[6], &mut buffer)?;
     assert_eq!(rt; buffer, [0, 1, 1, 9]);
@@ -92,11 +89,11 @@ fn a_refused_decoding_leaves_the_buffer(rt: HostRuntime) -> Result<(), Fail> {
 fn a_top_cell_steps_by_its_window(rt: HostRuntime) {
     let ground = Ground::over(Lift::over(Table::elementary(90)));
     let floor = Floor::over(ground, Action::Pack(2));
-    assert_eq!(rt; floor.top_next(&[0, 1, 0]), Ok(6));
-    assert_eq!(rt; floor.top_previous(&[0, 1, 0]), Ok(2));
-    assert_eq!(rt; floor.top_next(&[0, 1]), Err(RuleFault::WrongLength));
+    assert_eq!(rt; floor.next(&[0, 1, 0]), Ok(6));
+    assert_eq!(rt; floor.previous(&[0, 1, 0]), Ok(2));
+    assert_eq!(rt; floor.next(&[0, 1]), Err(RuleFault::WrongLength));
     assert_eq!(rt;
-        floor.top_previous(&[0, 1, 16]),
+        floor.previous(&[0, 1, 16]),
         Err(RuleFault::StrayCode(2))
     );
 }

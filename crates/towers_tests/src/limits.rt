@@ -6,13 +6,15 @@ use std::process::Abort;
 use std::test::Fail;
 use towers::{Ground, Tower};
 
-// Refusals: an argument out of range, and an outcome that does not fit.
-const OUT: u16 = 9;
+// The number of a refusal, if there is one: none, an argument out of range, an outcome that does not fit.
+const FITS: Option<u16> = None;
 
-const UNFIT: u16 = 11;
+const OUT: Option<u16> = Some(9);
 
-// The cells lo to hi that a rule with one state reads, an action over it, and the number of its refusal, or 0.
-type Case = (i32, i32, Action, u16);
+const UNFIT: Option<u16> = Some(11);
+
+// The cells lo to hi that a rule with one state reads, an action over it, and the number of its refusal.
+type Case = (i32, i32, Action, Option<u16>);
 
 const ARGUMENTS: [Case; 6] = [
     (0, 0, Action::Pack(0), OUT),
@@ -24,23 +26,23 @@ const ARGUMENTS: [Case; 6] = [
 ];
 
 const ENDS: [Case; 11] = [
-    (112, 112, Action::Shift(16), 0),
+    (112, 112, Action::Shift(16), FITS),
     (113, 113, Action::Shift(16), UNFIT),
-    (-112, -112, Action::Shift(-16), 0),
+    (-112, -112, Action::Shift(-16), FITS),
     (-113, -113, Action::Shift(-16), UNFIT),
-    (8, 8, Action::Iterate(16), 0),
+    (8, 8, Action::Iterate(16), FITS),
     (43, 43, Action::Iterate(3), UNFIT),
-    (-8, -8, Action::Iterate(16), 0),
+    (-8, -8, Action::Iterate(16), FITS),
     (-43, -43, Action::Iterate(3), UNFIT),
-    (-128, -128, Action::Mirror, 0),
-    (128, 128, Action::Pack(1), 0),
-    (-128, -128, Action::Reduce, 0),
+    (-128, -128, Action::Mirror, FITS),
+    (128, 128, Action::Pack(1), FITS),
+    (-128, -128, Action::Reduce, FITS),
 ];
 
 const WIDTHS: [Case; 4] = [
-    (0, 21, Action::Iterate(3), 0),
+    (0, 21, Action::Iterate(3), FITS),
     (0, 16, Action::Iterate(4), UNFIT),
-    (-8, 8, Action::Reduce, 0),
+    (-8, 8, Action::Reduce, FITS),
     (-8, 9, Action::Reduce, UNFIT),
 ];
 
@@ -49,12 +51,11 @@ fn one_state(lo: i32, hi: i32) -> Result<Ground<Table>, RuleFault> {
     Ok(Ground::over(Table::new(1, lo, hi, &[0])?))
 }
 
-// The number of the fault with which an action over a tower is refused, or 0.
-fn refusal<T: Tower + Drop>(tower: T, action: Action) -> u16 {
-    match Floor::build(tower, action, 1) {
-        Ok(_) => 0,
-        Err(unbuilt) => unbuilt.fault.number(),
-    }
+// The number of the fault with which an action over a tower is refused, if it is.
+fn refusal<T: Tower + Drop>(tower: T, action: Action) -> Option<u16> {
+    Floor::build(tower, action, 1)
+        .err()
+        .map(|refused| refused.fault.number())
 }
 
 fn check_cases(rt: &impl Abort, cases: &[Case]) -> Result<(), Fail> {
@@ -95,7 +96,7 @@ fn intervals_have_a_width(rt: HostRuntime) -> Result<(), Fail> {
 fn states_are_at_most_16_777_216(rt: HostRuntime) -> Result<(), Fail> {
     let eight = [0; 64];
     let packed = Ground::over(Table::new(8, 0, 1, &eight)?);
-    assert_eq!(rt; refusal(packed, Action::Pack(8)), 0);
+    assert_eq!(rt; refusal(packed, Action::Pack(8)), FITS);
     let packed = Ground::over(Table::new(8, 0, 1, &eight)?);
     assert_eq!(rt; refusal(packed, Action::Pack(9)), UNFIT);
     // a reduction packs the width less one
@@ -103,7 +104,7 @@ fn states_are_at_most_16_777_216(rt: HostRuntime) -> Result<(), Fail> {
         Ground::over(Table::new(8, 0, 1, &eight)?),
         Action::Iterate(8),
     );
-    assert_eq!(rt; refusal(nine, Action::Reduce), 0);
+    assert_eq!(rt; refusal(nine, Action::Reduce), FITS);
     let ten = Floor::over(
         Ground::over(Table::new(8, 0, 1, &eight)?),
         Action::Iterate(9),
@@ -116,7 +117,7 @@ fn states_are_at_most_16_777_216(rt: HostRuntime) -> Result<(), Fail> {
 fn blocks_are_at_most_65_536(rt: HostRuntime) -> Result<(), Fail> {
     let packed = four_times(one_state(-1, 1)?, Action::Pack(16));
     assert_eq!(rt; packed.numbers().block, 65_536);
-    assert_eq!(rt; refusal(packed, Action::Pack(1)), 0);
+    assert_eq!(rt; refusal(packed, Action::Pack(1)), FITS);
     let packed = four_times(one_state(-1, 1)?, Action::Pack(16));
     assert_eq!(rt; refusal(packed, Action::Pack(2)), UNFIT);
     let packed = four_times(one_state(-1, 1)?, Action::Pack(16));
@@ -128,7 +129,7 @@ fn blocks_are_at_most_65_536(rt: HostRuntime) -> Result<(), Fail> {
 fn steps_are_at_most_65_536(rt: HostRuntime) -> Result<(), Fail> {
     let iterated = four_times(one_state(0, 0)?, Action::Iterate(16));
     assert_eq!(rt; iterated.numbers().steps, 65_536);
-    assert_eq!(rt; refusal(iterated, Action::Iterate(1)), 0);
+    assert_eq!(rt; refusal(iterated, Action::Iterate(1)), FITS);
     let iterated = four_times(one_state(0, 0)?, Action::Iterate(16));
     assert_eq!(rt; refusal(iterated, Action::Iterate(2)), UNFIT);
     Ok(())
@@ -159,7 +160,7 @@ fn the_interval_of_an_inverse_has_ends(rt: HostRuntime) -> Result<(), Fail> {
     assert_eq!(rt; fitting.numbers().lo, 0);
     assert_eq!(rt; fitting.numbers().hi, 60);
     assert_eq!(rt; fitting.numbers().inverse, Some((-120, -60)));
-    assert_eq!(rt; refusal(fitting, Action::Shift(8)), 0);
+    assert_eq!(rt; refusal(fitting, Action::Shift(8)), FITS);
     assert_eq!(rt; refusal(inverse_at_an_end()?, Action::Shift(9)), UNFIT);
     Ok(())
 }

@@ -1,2 +1,1 @@
 mod Worked
-mod Calls

@@ -1,32 +1,37 @@
 // A tower climbed: a ring encoded, stepped at the top, and read.
-use crate::compute::{encoded, evolve, simulate};
 use crate::show::{Cells, Totals, show_numbers};
+use orbits::evolve;
 use rings::Direction;
 use rules::Rule;
-use towers::{Top, Tower};
+use runs::Run;
+use towers::Tower;
 
-// Encodes a ring, steps the top, and compares what each top ring tells with the steps of the bottom rule itself.
-pub(crate) fn climb<T: Tower, R: Rule>(
+// Runs a tower from a ring, and compares what each top ring tells with the steps of the bottom rule itself.
+pub(crate) fn climb<T: Tower + Drop, R: Rule>(
     rt: &HostRuntime,
     totals: &mut Totals,
-    tower: &Top<T>,
+    tower: T,
     bottom: &R,
     ring: &[u32],
     count: u8,
 ) -> anyhow::Result<()> {
     let heap = rt.alloc();
-    let numbers = tower.0.numbers();
+    let numbers = tower.numbers();
     show_numbers(rt, numbers)?;
     println!(rt; "  bottom ring: {}", Cells(ring))?;
-    let code = encoded(heap, &tower.0, ring)?;
-    println!(rt; "  encoded as top ring: {}", Cells(&code))?;
+    let mut a = vec![in heap; 0; ring.len()]?;
+    let mut b = vec![in heap; 0; ring.len()]?;
+    let mut reading = vec![in heap; 0; ring.len()]?;
+    let mut run = Run::make(tower, ring, &mut a, &b).map_err(|refused| refused.fault)?;
+    println!(rt; "  encoded as top ring: {}", Cells(run.present(&a, &b)?))?;
     for k in 1..=count {
-        let reading = simulate(heap, tower, ring, k)?;
-        println!(rt; "  top ring after step {k}: {}", Cells(&reading.top))?;
-        println!(rt; "    decoded and turned back: {}", Cells(&reading.told))?;
+        run.advance(1, &mut a, &mut b)?;
+        println!(rt; "  top ring after step {k}: {}", Cells(run.present(&a, &b)?))?;
+        run.read(&a, &b, &mut reading)?;
+        println!(rt; "    decoded and turned back: {}", Cells(&reading))?;
         let steps = (numbers.steps as usize).saturating_mul(usize::from(k));
         let reached = evolve(heap, bottom, Direction::Forward, ring, steps)?;
-        let word = totals.count(reading.told.as_slice() == reached.as_slice());
+        let word = totals.count(reading.as_slice() == reached.as_slice());
         println!(rt;
             "    the bottom rule itself, step {steps}: {}, {word}",
             Cells(&reached)

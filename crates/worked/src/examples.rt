@@ -1,13 +1,15 @@
 // The worked rings, computed and compared with what is expected.
+ghost use Rattle.std.specs.Prelude.{◌≤◌};
 ghost use Rattle.worked.specs.Worked.{WorkedRings};
 
-use crate::compute::{encoded, evolve, read};
 use crate::show::Totals;
 use combinators::Lift;
 use floors::{Action, Floor};
 use machines::{Move, Turing};
+use orbits::evolve;
 use rings::Direction;
 use rules::{RuleFault, Table};
+use runs::Run;
 use std::alloc::{AllocError, Global};
 use towers::{Ground, Tower};
 
@@ -64,14 +66,10 @@ fn step_110(rt: &HostRuntime, totals: &mut Totals) -> anyhow::Result<()> {
 }
 
 // The ring of so many cells whose codes are the digits of a number in base 2.
-fn binary_ring(heap: Global, cells: u32, number: u32) -> Result<Vec<u32>, AllocError> {
-    let mut ring = Vec::new(heap);
-    let mut rest = number;
-    for _cell in 0..cells {
-        ring.push(rest % 2)?;
-        rest /= 2;
-    }
-    Ok(ring)
+fn binary_ring(heap: Global, cells: u32, number: u32) -> Result<Vec<u32>, AllocError>
+    requires { cells ≤ 32 }
+{
+    (0..cells).map(|cell| (number >> cell) % 2).collect(heap)
 }
 
 // Rule 110 mirrored is rule 124, on every ring of a few cells.
@@ -99,14 +97,18 @@ fn mirror_110(rt: &HostRuntime, totals: &mut Totals) -> anyhow::Result<()> {
 
 // Rule 110 reduced.
 fn reduce_110(rt: &HostRuntime, totals: &mut Totals) -> anyhow::Result<()> {
-    let heap = rt.alloc();
-    let tower = reduced_110();
-    let code = encoded(heap, &tower, &[0, 0, 0, 1])?;
-    totals.compare(rt, "rule 110 reduced, 0 0 0 1 encoded", &code, &[0, 2])?;
-    let top = evolve(heap, &tower, Direction::Forward, &code, 1)?;
-    totals.compare(rt, "rule 110 reduced, 0 2 after a step", &top, &[2, 1])?;
-    let told = read(heap, &tower, &top, 1)?;
-    totals.compare(rt, "rule 110 reduced, 2 1 read", &told, &[0, 0, 1, 1])
+    let mut a = [0; 4];
+    let mut b = [0; 4];
+    let mut reading = [0; 4];
+    let mut run =
+        Run::make(reduced_110(), &[0, 0, 0, 1], &mut a, &b).map_err(|refused| refused.fault)?;
+    let code = run.present(&a, &b)?;
+    totals.compare(rt, "rule 110 reduced, 0 0 0 1 encoded", code, &[0, 2])?;
+    run.advance(1, &mut a, &mut b)?;
+    let top = run.present(&a, &b)?;
+    totals.compare(rt, "rule 110 reduced, 0 2 after a step", top, &[2, 1])?;
+    run.read(&a, &b, &mut reading)?;
+    totals.compare(rt, "rule 110 reduced, 2 1 read", &reading, &[0, 0, 1, 1])
 }
 
 // The numbers of the four floors over rule 110.
@@ -126,10 +128,7 @@ fn pile_floors(rt: &HostRuntime, totals: &mut Totals) -> anyhow::Result<()> {
 // Whether packs of so many cells of a rule with 8 states fit.
 fn packs_fit(cells: u32) -> Result<bool, RuleFault> {
     let identity = Table::new(8, 0, 0, &[0, 1, 2, 3, 4, 5, 6, 7])?;
-    match Floor::build(Ground::over(identity), Action::Pack(cells), 1) {
-        Ok(_) => Ok(true),
-        Err(_) => Ok(false),
-    }
+    Ok(Floor::build(Ground::over(identity), Action::Pack(cells), 1).is_ok())
 }
 
 // Packs of 8 and 9 cells with 8 states.

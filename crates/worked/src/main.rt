@@ -2,7 +2,6 @@
 #![tactic(auto)]
 
 mod climb;
-mod compute;
 mod examples;
 mod show;
 
@@ -11,7 +10,6 @@ use climb::climb;
 use examples::{four_floors, reduced_110, worked_rings};
 use rules::Table;
 use show::Totals;
-use towers::Top;
 
 fn run(rt: &HostRuntime) -> anyhow::Result<()> {
     let mut totals = Totals {
@@ -26,7 +24,7 @@ fn run(rt: &HostRuntime) -> anyhow::Result<()> {
     climb(
         rt,
         &mut totals,
-        &Top(reduced_110()),
+        reduced_110(),
         &rule,
         &[0, 0, 0, 1],
         1,
@@ -35,7 +33,7 @@ fn run(rt: &HostRuntime) -> anyhow::Result<()> {
     climb(
         rt,
         &mut totals,
-        &Top(four_floors()),
+        four_floors(),
         &rule,
         &[0, 0, 0, 1, 0, 0, 1, 1, 0, 1],
         3,
