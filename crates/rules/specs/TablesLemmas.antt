@@ -1,5 +1,5 @@
 -- Lemmas on tables: the index of an entry, and that a table is a lawful automaton.
-use Rattle.std.specs.Prelude.{◌≡◌, ℕ, suc, ◌+◌, ◌*◌, ◌^◌, ◌<◌, ◌≤◌, Bool, true, false, cond, List, [], ◌∷◌, ◌++◌, length, take, ℤ, pos, negsuc, ◌≤ℤ◌, is_some, Some, None, Ok, Option, int_le, slice_index, slice_index_or, refl}
+use Rattle.std.specs.Prelude.{◌≡◌, ℕ, suc, ◌+◌, ◌*◌, ◌^◌, ◌<◌, ◌≤◌, Bool, true, false, cond, List, [], ◌∷◌, ◌++◌, length, take, ℤ, pos, negsuc, ◌≤ℤ◌, is_some, Some, None, Option, int_le, slice_index, refl}
 use Rattle.std.proofs.Common.{sym, ap, ◌∙◌, ⊎_elim, arith, pow-suc, add-mul, mul_assoc, mul_comm, mul-le-mul_right, add-one}
 use Rattle.std.proofs.Math.Nat.{pow-zero, pow-le-pow_right}
 use Rattle.std.proofs.lemmas.List.{length_push, take_more, length-take-le, get_or-take, get_or_past}
@@ -10,9 +10,8 @@ use Rattle.rings.specs.Local.{span}
 use Rattle.rings.specs.Automaton.{Lawful}
 use Rattle.rings.proofs.Ring.{is_first_stray}
 use Rattle.rules.specs.Tables.{entry_index, table_fits, table_fault, stored, stored_table}
-use Rattle.rules.specs.Answers.{checked}
 use Rattle.rules.specs.declared.fault.RuleFault.TheVariants.{BadEntry}
-use Rattle.rules.specs.Windows.{readable, checked_readable}
+use Rattle.rules.specs.Windows.{Readable}
 
 -- the index of an entry
 
@@ -106,28 +105,21 @@ table_lawful q lo hi store fits closed =
       };
     }
 
--- what a table reads at a window that was checked
-module _ (q : ℕ) (lo hi : ℤ) (store ws : List ℕ) (w : ℕ) (fits : table_fits q lo hi ≡ true) (e : w ≡ span lo hi) (h : Ok tt ≡ checked {X = Unit {0}} q w ws tt) where
+-- what a table reads at a window of its own
+module _ (q : ℕ) (lo hi : ℤ) (store ws : List ℕ) (fits : table_fits q lo hi ≡ true) (r : Readable q (span lo hi) ws) where
   pub may_index : Codes q ws × ((1 ≤ q) × (q ^ length ws ≤ 1024))
   may_index =
       let s = sized q lo hi fits in
-      let r = readable q w ws h in
-      (r.codes, (s.some, omega (arith, s.entries, ap (λ n. q ^ n) (r.len ∙ e))))
+      (r.codes, (s.some, omega (arith, s.entries, ap (λ n. q ^ n) r.len)))
 
-  pub index_inside : (i : ℕ) → i ≡ entry_index q ws → i < q ^ span lo hi
-  index_inside i k =
-      let r = readable q w ws h in
-      omega (arith, entry_index_lt q ws r.codes, ap (λ n. q ^ n) (r.len ∙ e))
+  index_inside : (i : ℕ) → i ≡ entry_index q ws → i < q ^ span lo hi
+  index_inside i k = omega (arith, entry_index_lt q ws r.codes, ap (λ n. q ^ n) r.len)
 
   pub index_small : (i : ℕ) → i ≡ entry_index q ws → i < 1024
   index_small i k = omega (arith, index_inside i k, (sized q lo hi fits).entries)
 
-  pub table-reads : (i : ℕ) → i ≡ entry_index q ws → Ok (slice_index store i) ≡ checked q (span lo hi) ws (slice_index (stored q lo hi store) (entry_index q ws))
-  table-reads i k =
-      let r = readable q w ws h in
-      let value : slice_index_or (stored q lo hi store) (entry_index q ws) 0 ≡ slice_index_or store i 0 =
-      ap (λ n. slice_index (stored q lo hi store) n) (sym k) ∙ get_or-take (q ^ span lo hi) store i 0 (index_inside i k) in
-      sym (ap (λ n. checked q n ws (slice_index (stored q lo hi store) (entry_index q ws))) (sym e) ∙ checked_readable q w ws r (slice_index (stored q lo hi store) (entry_index q ws)) ∙ ap Ok value)
+  pub entry_stored : (i : ℕ) → i ≡ entry_index q ws → slice_index store i ≡ slice_index (stored q lo hi store) (entry_index q ws)
+  entry_stored i k = sym (ap (λ n. slice_index (stored q lo hi store) n) (sym k) ∙ get_or-take (q ^ span lo hi) store i 0 (index_inside i k))
 
 -- a table that was made from its entries
 

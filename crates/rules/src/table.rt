@@ -1,11 +1,12 @@
 // Rules given by a table with an entry for every window.
-ghost use Rattle.std.specs.Prelude.{◌≡◌, ◌*◌, ◌^◌, ◌<◌, ◌≤◌, true, false, length, take, is_some, if◌then◌else◌, Some, None, MatchResult, nat_le};
+ghost use Rattle.std.specs.Prelude.{◌≡◌, ◌*◌, ◌^◌, ◌<◌, ◌≤◌, true, false, length, take, is_some, if◌then◌else◌, Some, None, MatchResult, nat_le, slice_index};
 ghost use Rattle.rings.specs.Line.{tabulate};
 ghost use Rattle.rings.specs.Local.{span};
 ghost use Rattle.rings.specs.Ring.{Codes, first_stray};
 ghost use Rattle.rules.specs.Tables.{entry_index, table, table_fits, table_fault, stored, stored_table};
 ghost use Rattle.rules.specs.Elementary.{bit, elementary, WolframNumbered};
 ghost use Rattle.rules.specs.Kinds.{table_kind};
+ghost use Rattle.rules.specs.Windows.{Readable};
 ghost use Rattle.rules.specs.TablesLemmas.{table_lawful};
 
 use crate::window::check_window;
@@ -16,25 +17,31 @@ const MAX_TABLE_STATES: u32 = 1024;
 
 const MAX_ENTRIES: usize = 1024;
 
+// An elementary automaton has two states, and reads a cell and its two neighbours.
+const ELEMENTARY_SHAPE: Shape = Shape {
+    states: 2,
+    lo: -1,
+    hi: 1,
+};
+
 const ELEMENTARY_ENTRIES: usize = 8;
 
 // A rule by its entries, which stand at the front of the store. None of them is `states` or more.
 #[derive(Drop)]
 pub struct Table {
-    states: u32,
-    lo: i32,
-    hi: i32,
+    shape: Shape,
     store: [u32; MAX_ENTRIES],
-    ghost fits: { table_fits states lo hi ≡ true },
-    ghost closed: { is_some (first_stray states (stored states lo hi store)) ≡ false },
+    ghost fits: { table_fits shape.states shape.lo shape.hi ≡ true },
+    ghost closed: { is_some (first_stray shape.states (stored shape.states shape.lo shape.hi store)) ≡ false },
 }
 
 impl Table {
     // The table with these entries, one for every window.
     pub fn new(states: u32, lo: i32, hi: i32, entries: &[u32]) -> Result<Table, RuleFault>
-        ensures answer { MatchResult result (λ t. (table_fault states lo hi entries.now ≡ None) × (stored_table t.states t.lo t.hi t.store ≡ table states lo hi entries.now)) (λ e. table_fault states lo hi entries.now ≡ Some e) }
+        ensures answer { MatchResult result (λ t. (table_fault states lo hi entries.now ≡ None) × (stored_table t.shape.states t.shape.lo t.shape.hi t.store ≡ table states lo hi entries.now)) (λ e. table_fault states lo hi entries.now ≡ Some e) }
     {
-        let count = entry_count(states, lo, hi).ok_or(RuleFault::OutOfRange)?;
+        let shape = Shape { states, lo, hi };
+        let count = entry_count(shape).ok_or(RuleFault::OutOfRange)?;
         if entries.len() != count as usize {
             return Err(RuleFault::WrongLength);
         }
@@ -42,24 +49,28 @@ impl Table {
             return Err(RuleFault::BadEntry(index));
         }
         Ok(Table {
-            states,
-            lo,
-            hi,
+            shape,
             store: padded(entries),
         })
     }
 
     // The elementary automaton of this number, after Wolfram.
     pub fn elementary(number: u8) -> Table
-        ensures answer { stored_table result.states result.lo result.hi result.store ≡ elementary number }
-        ensures law { WolframNumbered number (stored_table result.states result.lo result.hi result.store) }
+        ensures answer { stored_table result.shape.states result.shape.lo result.shape.hi result.store ≡ elementary number }
+        ensures law { WolframNumbered number (stored_table result.shape.states result.shape.lo result.shape.hi result.store) }
     {
         Table {
-            states: 2,
-            lo: -1,
-            hi: 1,
+            shape: ELEMENTARY_SHAPE,
             store: padded(&bits(number)),
         }
+    }
+
+    // The entry for a window of this table.
+    fn entry(&self, window: &[u32]) -> u32
+        requires { Readable self.now.shape.states (span self.now.shape.lo self.now.shape.hi) window.now }
+        ensures { result ≡ slice_index (stored self.now.shape.states self.now.shape.lo self.now.shape.hi self.now.store) (entry_index self.now.shape.states window.now) }
+    {
+        self.store[index_of(window, self.shape.states)]
     }
 }
 
@@ -68,16 +79,12 @@ impl Rule for Table {
 
     ghost KIND = { table_kind };
 
-    ghost meaning = { λ t. stored_table t.states t.lo t.hi t.store };
+    ghost meaning = { λ t. stored_table t.shape.states t.shape.lo t.shape.hi t.store };
 
-    ghost lawful = { λ x. table_lawful x.states x.lo x.hi x.store x.fits x.closed };
+    ghost lawful = { λ x. table_lawful x.shape.states x.shape.lo x.shape.hi x.store x.fits x.closed };
 
     fn shape(&self) -> Shape {
-        Shape {
-            states: self.states,
-            lo: self.lo,
-            hi: self.hi,
-        }
+        self.shape
     }
 
     fn inverse(&self) -> Option<(i32, i32)> {
@@ -85,8 +92,9 @@ impl Rule for Table {
     }
 
     fn next(&self, window: &[u32]) -> Result<u32, RuleFault> {
-        check_window(window, self.states, interval_width(self.lo, self.hi))?;
-        Ok(self.store[index_of(window, self.states)])
+        let Shape { states, lo, hi } = self.shape;
+        check_window(window, states, interval_width(lo, hi))?;
+        Ok(self.entry(window))
     }
 
     fn previous(&self, _window: &[u32]) -> Result<u32, RuleFault> {
@@ -94,10 +102,11 @@ impl Rule for Table {
     }
 }
 
-// How many entries a table has, if its sizes are in their ranges.
-fn entry_count(states: u32, lo: i32, hi: i32) -> Option<u32>
-    ensures { result ≡ (if table_fits states lo hi then Some (states ^ span lo hi) else None) }
+// How many entries a table of this shape has, if its sizes are in their ranges.
+fn entry_count(shape: Shape) -> Option<u32>
+    ensures { result ≡ (if table_fits shape.states shape.lo shape.hi then Some (shape.states ^ span shape.lo shape.hi) else None) }
 {
+    let Shape { states, lo, hi } = shape;
     let width = interval_width(lo, hi);
     if states < 1
         || states > MAX_TABLE_STATES
