@@ -1,26 +1,33 @@
 -- Lemmas on the call that draws a configuration.
-use Rattle.std.proofs.Common.{◌≡◌, ℕ, ◌<◌, ◌≤◌, Bool, true, false, cond, eqb, ltb, leb, length, Some, None, Option, refl, arith}
-use Rattle.std.proofs.lemmas.Bool.{leb-false, ltb-false}
-use Rattle.rings.specs.Ring.{Codes, first_stray, IsFirstStray}
+use Rattle.std.proofs.Common.{◌≡◌, ℕ, ◌<◌, ◌++◌, List, length, get_or, set, drop, Some, None, sym, ap, ◌∙◌, ap₂, arith}
+use Rattle.std.proofs.lemmas.Bool.{cases_eq}
+use Rattle.std.proofs.lemmas.Bool.Decides.{nat_tests}
+use Rattle.std.proofs.lemmas.List.{length-set, get_or-set_same, get_or-set_other, set-append_left}
+use Rattle.rings.specs.Refusals.{unless_refused}
+use Rattle.rings.proofs.Line.{is_tabulate, length-tabulate}
 use Rattle.rings.proofs.Ring.{is_first_stray}
-use Rattle.rules.specs.declared.fault.RuleFault.TheVariants.{EmptyRing, ShortBuffer, OutOfRange}
-use Rattle.machines.specs.Turing.{Machine, Configuration}
-use Rattle.machines.specs.Drawings.{bad_symbol, draw_fault}
+use Rattle.rules.specs.Maps.{written_over}
+use Rattle.machines.specs.Turing.{Machine, Configuration, ProperConfiguration, code_of, cell, drawing}
+use Rattle.machines.specs.Drawings.{draw_fault, draw_buffer}
 
--- a configuration that is not refused
-pub record Drawable (m : Machine) (c : Configuration) (room : ℕ) : Type 0 where
-  pub state : c.state < m.heads
-  pub codes : Codes m.symbols c.tape
-  pub fits : length c.tape ≤ room
+-- a configuration that is not refused is one of the machine
+pub drawn_proper : (m : Machine) (c : Configuration) (room : ℕ) → None ≡ draw_fault m c room → ProperConfiguration m c
+drawn_proper m c room h = let first = is_first_stray m.symbols c.tape in grind (arith, nat_tests)
 
-pub drawable : (m : Machine) (c : Configuration) (room : ℕ) → None ≡ draw_fault m c room → Drawable m c room
-drawable m c room =
-    by (eqb (length c.tape) 0) (leb (length c.tape) c.position) (leb m.heads c.state) (first_stray m.symbols c.tape) (ltb room (length c.tape)) refl (is_first_stray m.symbols c.tape) refl where
-      by : (e p s : Bool) (o : Option ℕ) (r : Bool) → leb m.heads c.state ≡ s → IsFirstStray m.symbols c.tape o → ltb room (length c.tape) ≡ r
-          → None ≡ cond e (Some EmptyRing) (cond p (Some OutOfRange) (cond s (Some OutOfRange) (bad_symbol o (cond r (Some ShortBuffer) None)))) → Drawable m c room
-      by true p s o r es is er h = let z : ◌≡◌ {A = ℕ} 0 1 = cc in absurd (omega arith)
-      by false true s o r es is er h = let z : ◌≡◌ {A = ℕ} 0 1 = cc in absurd (omega arith)
-      by false false true o r es is er h = let z : ◌≡◌ {A = ℕ} 0 1 = cc in absurd (omega arith)
-      by false false false (Some i) r es is er h = let z : ◌≡◌ {A = ℕ} 0 1 = cc in absurd (omega arith)
-      by false false false None true es is er h = let z : ◌≡◌ {A = ℕ} 0 1 = cc in absurd (omega arith)
-      by false false false None false es is er h = record { state = leb-false _ _ es; codes = is; fits = ltb-false _ _ er }
+-- a cell without the head has its symbol for a code
+tape_with_head : (m : Machine) (c : Configuration) → c.position < length c.tape → set c.tape c.position (code_of m.symbols (get_or c.tape c.position 0) (Some c.state)) ≡ drawing m c
+tape_with_head m c inside = is_tabulate (cell m c) (length c.tape) (set c.tape c.position code) (length-set _ _ _) each where
+  code : ℕ
+  code = code_of m.symbols (get_or c.tape c.position 0) (Some c.state)
+
+  each : (i : ℕ) → i < length c.tape → get_or (set c.tape c.position code) i 0 ≡ cell m c i
+  each i l = grind (arith, get_or-set_same, get_or-set_other, cases_eq i c.position)
+
+-- what the buffer holds when the head stands on the tape that was copied into it
+pub drawn : (m : Machine) (c : Configuration) (buffer : List ℕ) → None ≡ draw_fault m c (length buffer)
+    → set (c.tape ++ drop (length c.tape) buffer) c.position (code_of m.symbols (get_or c.tape c.position 0) (Some c.state)) ≡ draw_buffer m c buffer
+drawn m c buffer accepted =
+    let inside = (drawn_proper m c (length buffer) accepted).position in
+    set-append_left c.tape (drop (length c.tape) buffer) c.position _ inside ∙
+    ap₂ ◌++◌ (tape_with_head m c inside) (ap (λ k. drop k buffer) (sym (length-tabulate (cell m c) (length c.tape)))) ∙
+    ap (λ r. unless_refused r (written_over (drawing m c) buffer) buffer) accepted

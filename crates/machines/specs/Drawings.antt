@@ -3,7 +3,8 @@ use Rattle.std.specs.Prelude.{ℕ, cond, List, length, Some, None, Option, Resul
 use Rattle.rings.specs.Ring.{first_stray}
 use Rattle.rules.specs.declared.fault.RuleFault.{RuleFault}
 use Rattle.rules.specs.declared.fault.RuleFault.TheVariants.{EmptyRing, ShortBuffer, OutOfRange, BadEntry}
-use Rattle.rules.specs.Maps.{outcome, written_over, unless_refused}
+use Rattle.rings.specs.Refusals.{outcome, unless_refused}
+use Rattle.rules.specs.Maps.{written_over}
 use Rattle.machines.specs.Turing.{Machine, Configuration, drawing}
 
 abbrev pub bad_symbol : Option ℕ → Option RuleFault → Option RuleFault

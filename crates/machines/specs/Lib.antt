@@ -5,3 +5,5 @@ pub mod Cells
 pub mod Worked
 pub mod Machines
 pub mod TransitionsLemmas
+pub mod Views
+pub mod ViewsLemmas

@@ -2,12 +2,11 @@
 use Rattle.std.specs.Prelude.{◌≡◌, ℕ, zero, suc, ◌+◌, ◌-◌, ◌*◌, ◌/◌, ◌%◌, ◌^◌, ◌<◌, ◌≤◌, Bool, true, false, ◌&&◌, List, length, ℤ, pos, negsuc, ◌+ℤ◌, ◌*ℤ◌, neg_ℤ, IfSome, Some, None, Option, ◌==◌, nat_eq, slice_index, slice_index_or, slice_set}
 use Rattle.std.proofs.Math.Path.{refl, sym}
 use Rattle.std.proofs.Common.{ap, ap₂, ◌∙◌, arith, mod-eq_of_lt, mod-lt, mul_comm}
-use Rattle.std.proofs.Math.Bool.{and-true, and-false}
 use Rattle.std.proofs.Math.Nat.{add-mul-mod_self_left, add-mul-div_left, div-eq_of_lt}
 use Rattle.std.proofs.lemmas.Nat.{mul-add-lt, mul-le, div_below}
 use Rattle.std.proofs.lemmas.List.{get_or-set_same, get_or-set_other, length-set}
 use Rattle.std.proofs.lemmas.Int.{ints}
-use Rattle.std.proofs.lemmas.Bool.{eqb-true, eqb-false, cond_both, cases_eq}
+use Rattle.std.proofs.lemmas.Bool.{cases_eq}
 use Rattle.std.proofs.lemmas.Bool.Decides.{nat_tests, Decides-eqb, Decides-like, same_from_decides}
 use Rattle.std.specs.Option.{option_or}
 use Rattle.std.specs.Bool.{then_some}
@@ -49,13 +48,10 @@ fitting_or_other h None p f g = g
 fitting_or_other h (Some z) p f g = f
 
 fitting_head_of : (a h x : ℕ) → 0 < a → x < a * (h + 1) → Fitting h (head_of a x)
-fitting_head_of a h x some l =
-    let less : x / a < h + 1 = div_below x a (h + 1) some (omega (arith, mul_comm a (h + 1))) in
-    cond_both (x / a == 0) None (Some (x / a - 1)) (Fitting h) (λ e. tt) (λ e. omega (arith, eqb-false (x / a) 0 e))
+fitting_head_of a h x some l = grind (arith, nat_tests, div_below, mul_comm)
 
 head_number_lt : (h : ℕ) (o : Option ℕ) → Fitting h o → head_number o < h + 1
-head_number_lt h None f = omega arith
-head_number_lt h (Some z) f = omega arith
+head_number_lt h o f = grind arith
 
 code_of_lt : (a h y : ℕ) (o : Option ℕ) → y < a → Fitting h o → code_of a y o < a * (h + 1)
 code_of_lt a h y o l f = omega (arith, mul-add-lt (head_number o) a y (h + 1) (head_number_lt h o f) l, mul_comm a (head_number o))
@@ -166,19 +162,10 @@ module _ (m : Machine) (c : Configuration) (p : ProperConfiguration m c) where
       ap₂ f (symbol_of_code_of m.symbols (slice_index c.tape i) (head_on c i) l) (head_of_code_of m.symbols (slice_index c.tape i) (head_on c i) l)
 
   next_symbol_cell : (i : ℕ) → i < length c.tape → next_symbol m (cell m c i) ≡ slice_index (step m c).tape i
-  next_symbol_cell i h = read_cell (written m) i h ∙ by (i == c.position) refl where
-    by : (b : Bool) → (i == c.position) ≡ b → written m (slice_index c.tape i) (then_some b c.state) ≡ slice_index (step m c).tape i
-    by true e =
-        let here = eqb-true i c.position e in
-        let new = get_or-set_same c.tape c.position (transition_at m c).write 0 p.position in
-        cc
-    by false e = sym (get_or-set_other c.tape c.position i (transition_at m c).write 0 (eqb-false i c.position e))
+  next_symbol_cell i h = read_cell (written m) i h ∙ grind (arith, nat_tests, get_or-set_same, get_or-set_other, cases_eq i c.position)
 
   arriving_cell : (v : Move) (i : ℕ) → i < length c.tape → arriving m v (cell m c i) ≡ then_some (same_move (transition_at m c).step v && i == c.position) (transition_at m c).next
-  arriving_cell v i h = read_cell (moving m v) i h ∙ by (i == c.position) refl where
-    by : (b : Bool) → (i == c.position) ≡ b → moving m v (slice_index c.tape i) (then_some b c.state) ≡ then_some (same_move (transition_at m c).step v && b) (transition_at m c).next
-    by true e = ap (λ k. moving m v (slice_index c.tape k) (Some c.state)) (eqb-true i c.position e) ∙ rw and-true
-    by false e = rw and-false
+  arriving_cell v i h = read_cell (moving m v) i h ∙ grind (arith, nat_tests, cases_eq i c.position)
 
   -- a head that comes to the cell i by the move v, from the cell z
   arriving_drawing : (v : Move) (i : ℕ) (z : ℤ) → z ≡ pos i +ℤ neg_ℤ (shift v) → i < length c.tape

@@ -1,10 +1,12 @@
 -- The list of transitions of a machine, how one is entered, and the numbers of the moves.
-use Rattle.std.specs.Prelude.{◌≡◌, ℕ, ◌+◌, ◌*◌, ◌/◌, ◌%◌, ◌<◌, Bool, true, cond, ◌&&◌, List, [], ◌∷◌, map, IfSome, Some, None, Ok, Err, Option, Result, ◌==◌, nat_le, nat_lt, slice_index_or, slice_set}
+use Rattle.std.specs.Prelude.{◌≡◌, ℕ, ◌+◌, ◌*◌, ◌/◌, ◌%◌, ◌<◌, Bool, cond, ◌&&◌, List, map, IfSome, Some, None, Ok, Err, Option, Result, ◌==◌, nat_le, nat_lt, slice_index_or, slice_set}
 use Rattle.std.specs.List.{range_with_len}
+use Rattle.std.specs.Option.{ok_or}
 use Rattle.rules.specs.declared.fault.RuleFault.{RuleFault}
 use Rattle.rules.specs.declared.fault.RuleFault.TheVariants.{OutOfRange, BadEntry}
 use Rattle.machines.specs.declared.transition.Transition.{Transition}
 use Rattle.machines.specs.declared.transition.Move.{Move}
+use Rattle.machines.specs.declared.transition.UnknownMove.{UnknownMove}
 use Rattle.machines.specs.declared.transition.Move.TheVariants.{Left, Stay, Right}
 use Rattle.machines.specs.Turing.{Machine}
 
@@ -21,6 +23,10 @@ move_number Right = 2
 -- The move with a number, if there is one.
 abbrev pub numbered_move : ℕ → Option Move
 numbered_move n = cond (n == 0) (Some Left) (cond (n == 1) (Some Stay) (cond (n == 2) (Some Right) None))
+
+-- The move with a number, or else the number.
+abbrev pub move_of : ℕ → Result Move UnknownMove
+move_of n = ok_or (numbered_move n) (record { 0 = n })
 
 -- The transition that changes nothing, in the state z at the symbol y: it writes what it reads, stays and keeps the state.
 abbrev pub idle : ℕ → ℕ → Transition
@@ -41,11 +47,6 @@ machine_fits a h = nat_le 1 a && (nat_le a 64 && (nat_le 1 h && (nat_le h 64 && 
 -- The transition writes one of a symbols and leads to one of h states.
 abbrev pub transition_fits : ℕ → ℕ → Transition → Bool
 transition_fits a h t = nat_lt t.write a && nat_lt t.next h
-
--- Every transition of the list does.
-unfoldable pub all_fit : ℕ → ℕ → List Transition → Bool
-all_fit a h [] = true
-all_fit a h (t ∷ list) = transition_fits a h t && all_fit a h list
 
 -- The transition with the index i of a new machine, which changes nothing.
 abbrev pub new_transition : ℕ → ℕ → ℕ → Transition

@@ -1,8 +1,11 @@
 // Turing machines as rules, on rings.
 #![tactic(auto)]
 
+mod configuration;
+mod machine;
 mod transition;
 mod turing;
 
-pub use transition::{Move, Transition};
-pub use turing::Turing;
+pub use configuration::Configuration;
+pub use machine::Turing;
+pub use transition::{Move, Transition, UnknownMove};

@@ -1,18 +1,17 @@
 // A Turing machine as a rule: a cell has a symbol, and there may be a head on it.
-ghost use Rattle.std.specs.Prelude.{◌≡◌, ℕ, ◌+◌, ◌*◌, ◌<◌, ◌≤◌, true, false, length, IfSome, MatchResult};
-ghost use Rattle.rings.specs.Ring.{Codes};
+ghost use Rattle.std.specs.Prelude.{◌≡◌, ℕ, ◌+◌, ◌*◌, ◌<◌, ◌≤◌, true, false, IfSome, MatchResult};
+ghost use Rattle.rings.specs.Refusals.{outcome};
 ghost use Rattle.rules.specs.declared.fault.RuleFault.TheVariants.{OutOfRange};
-ghost use Rattle.rings.specs.Line.{tabulate};
 ghost use Rattle.machines.specs.Turing.{StepsAsItsMachine, code_of, arriving, next_symbol, next_code, turing};
-ghost use Rattle.machines.specs.Cells.{acts, drawn_cell};
+ghost use Rattle.machines.specs.Cells.{acts};
 ghost use Rattle.machines.specs.Drawings.{draw_fault, draw_answer, draw_buffer};
 ghost use Rattle.machines.specs.Worked.{WorkedRings};
-ghost use Rattle.machines.specs.Transitions.{turing_kind, listed, machine_fits, all_fit, new_transition, new_list, Idles, transition_of, enter_answer, enter_list, Enters};
-ghost use Rattle.std.proofs.Common.{arith};
-ghost use Rattle.machines.specs.Machines.{turing_lawful};
-ghost use Rattle.machines.specs.TransitionsLemmas.{proper-listed, states_le};
+ghost use Rattle.machines.specs.Transitions.{turing_kind, listed, machine_fits, new_list, Idles, transition_of, enter_answer, enter_list, Enters};
+ghost use Rattle.machines.specs.Views.{machine_of, configuration_of, IsCode};
+ghost use Rattle.machines.specs.ViewsLemmas.{machine_lawful};
 
-use crate::transition::{MAX_TRANSITIONS, Move, Transition, Transitions, is_same, transition_from};
+use crate::transition::{MAX_TRANSITIONS, Transitions};
+use crate::{Configuration, Move, Transition, Turing};
 use rings::first_stray;
 use rules::{Rule, RuleFault, Shape, check_window};
 
@@ -21,23 +20,6 @@ const MAX_SYMBOLS: u32 = 64;
 const MAX_HEADS: u32 = 64;
 
 const WIDTH: usize = 3;
-
-const IDLE: Transition = Transition {
-    write: 0,
-    step: Move::Stay,
-    next: 0,
-};
-
-// A machine with so many symbols, so many states of a head, and a transition for each state and symbol.
-#[derive(Drop)]
-pub struct Turing {
-    symbols: u32,
-    heads: u32,
-    transitions: Transitions,
-    ghost fits: { machine_fits symbols heads ≡ true },
-    ghost full: { length transitions.list ≡ 512 },
-    ghost proper: { all_fit symbols heads transitions.list ≡ true },
-}
 
 impl Turing {
     // A machine that writes what it reads, stays and keeps its state.
@@ -52,11 +34,12 @@ impl Turing {
         Ok(Turing {
             symbols,
             heads,
-            transitions: idle_transitions(symbols, heads),
+            transitions: Transitions::idle(symbols, heads),
         })
     }
 
-    // Enters a transition at its index, state × symbols + symbol, by three numbers: the symbol to write, the move and the next state.
+    // Enters a transition at its index, state × symbols + symbol, by the three numbers that files hold: the symbol to write, the move
+    // and the next state.
     pub fn enter(&mut self, index: usize, write: u32, step: u32, next: u32) -> Result<(), RuleFault>
         ensures answer { result ≡ enter_answer self.old.symbols self.old.heads index (transition_of self.old.symbols self.old.heads write step next) }
         ensures sizes { (self.new.symbols ≡ self.old.symbols) × (self.new.heads ≡ self.old.heads) }
@@ -66,46 +49,118 @@ impl Turing {
         if index >= (self.symbols * self.heads) as usize {
             return Err(RuleFault::OutOfRange);
         }
-        let Some(transition) = transition_from(self.symbols, self.heads, write, step, next) else {
-            return Err(RuleFault::BadEntry(index));
-        };
+        let transition = self
+            .transition_from(write, step, next)
+            .ok_or(RuleFault::BadEntry(index))?;
         self.transitions.put(index, transition);
         Ok(())
     }
 
-    // Writes the ring of a configuration, a circular tape with one head on it, into the first cells of a buffer.
+    // Writes the ring of a configuration into the first cells of a buffer.
     pub fn draw(
         &self,
-        tape: &[u32],
-        position: usize,
-        state: u32,
+        configuration: Configuration<'_>,
         buffer: &mut [u32],
     ) -> Result<(), RuleFault>
-        ensures answer { result ≡ draw_answer (listed self.now.symbols self.now.heads self.now.transitions.list) (record { tape = tape.entry.now; position = position; state = state }) buffer.old }
-        ensures buffer { buffer.new ≡ draw_buffer (listed self.now.symbols self.now.heads self.now.transitions.list) (record { tape = tape.entry.now; position = position; state = state }) buffer.old }
-        ensures law { StepsAsItsMachine (listed self.now.symbols self.now.heads self.now.transitions.list) }
+        ensures answer { result ≡ draw_answer (machine_of self.now) (configuration_of configuration.entry) buffer.old }
+        ensures buffer { buffer.new ≡ draw_buffer (machine_of self.now) (configuration_of configuration.entry) buffer.old }
+        ensures law { StepsAsItsMachine (machine_of self.now) }
     {
-        if let Some(fault) = draw_refusal(self, tape, position, state, buffer.len()) {
-            return Err(fault);
-        }
-        let n = tape.len();
-        write_cells(self.symbols, tape, position, state, &mut buffer[0..n]);
+        self.check_drawing(configuration, buffer.len())?;
+        let Configuration {
+            tape,
+            position,
+            state,
+        } = configuration;
+        // the code of a cell without the head is its symbol
+        buffer[0..tape.len()].copy_from_slice(tape);
+        buffer[position] = code_with(self.symbols, tape[position], Some(state));
         Ok(())
+    }
+
+    // Refuses a configuration that is not drawn into a buffer of `room` cells.
+    fn check_drawing(&self, configuration: Configuration<'_>, room: usize) -> Result<(), RuleFault>
+        ensures { result ≡ outcome (draw_fault (machine_of self.now) (configuration_of configuration.entry) room) }
+    {
+        let Configuration {
+            tape,
+            position,
+            state,
+        } = configuration;
+        if tape.is_empty() {
+            return Err(RuleFault::EmptyRing);
+        }
+        if position >= tape.len() || state >= self.heads {
+            return Err(RuleFault::OutOfRange);
+        }
+        if let Some(index) = first_stray(tape, self.symbols) {
+            return Err(RuleFault::BadEntry(index));
+        }
+        if room < tape.len() {
+            return Err(RuleFault::ShortBuffer);
+        }
+        Ok(())
+    }
+
+    // The transition of three numbers, if they are in their ranges.
+    fn transition_from(&self, write: u32, step: u32, next: u32) -> Option<Transition>
+        ensures { result ≡ transition_of self.now.symbols self.now.heads write step next }
+    {
+        let step = Move::try_from(step).ok()?;
+        (write < self.symbols && next < self.heads).then_some(Transition { write, step, next })
+    }
+
+    // The transition that the head on a cell with this code makes, if there is a head. The code of a head's cell is greater by the
+    // number of symbols than the index of the transition.
+    fn transition_at(&self, code: u32) -> Option<Transition>
+        requires { IsCode self.now code }
+        ensures { result ≡ acts (machine_of self.now) code }
+    {
+        let index = code.checked_sub(self.symbols)?;
+        Some(self.transitions.list[index as usize])
+    }
+
+    // The next state of the head on a cell with this code, if there is a head and it makes this move.
+    fn head_leaving(&self, code: u32, step: Move) -> Option<u32>
+        requires { IsCode self.now code }
+        ensures { result ≡ arriving (machine_of self.now) step code }
+    {
+        self.transition_at(code)
+            .filter(|transition| transition.step == step)
+            .map(|transition| transition.next)
+    }
+
+    // The next symbol of a cell with this code.
+    fn symbol_after(&self, code: u32) -> u32
+        requires { IsCode self.now code }
+        ensures { result ≡ next_symbol (machine_of self.now) code }
+    {
+        self.transition_at(code)
+            .map_or(code % self.symbols, |transition| transition.write)
+    }
+
+    // The next code of a cell, from its own code and those of its neighbours.
+    fn next_code(&self, left: u32, own: u32, right: u32) -> u32
+        requires { (IsCode self.now left) × ((IsCode self.now own) × (IsCode self.now right)) }
+        ensures { result ≡ next_code (machine_of self.now) left own right }
+    {
+        let symbol = self.symbol_after(own);
+        let head = self
+            .head_leaving(left, Move::Right)
+            .or(self.head_leaving(own, Move::Stay))
+            .or(self.head_leaving(right, Move::Left));
+        code_with(self.symbols, symbol, head)
     }
 }
 
 impl Rule for Turing {
     const KIND: u16 = 0x0012;
 
-    ghost kind = { turing_kind };
+    ghost KIND = { turing_kind };
 
-    ghost meaning = { λ t. turing (listed t.symbols t.heads t.transitions.list) };
+    ghost meaning = { λ t. turing (machine_of t) };
 
-    ghost lawful = { λ x. turing_lawful (listed x.symbols x.heads x.transitions.list) (proper-listed x.symbols x.heads x.transitions.list x.fits x.proper) (omega (arith, states_le x.symbols x.heads x.fits)) };
-
-    fn kind_number() -> u16 {
-        Self::KIND
-    }
+    ghost lawful = { machine_lawful };
 
     fn shape(&self) -> Shape {
         Shape {
@@ -120,93 +175,12 @@ impl Rule for Turing {
     }
 
     fn next(&self, window: &[u32]) -> Result<u32, RuleFault> {
-        check_window(window, self.symbols * (self.heads + 1), WIDTH)?;
-        Ok(next_code_of(self, window[0], window[1], window[2]))
+        check_window(window, self.shape().states, WIDTH)?;
+        Ok(self.next_code(window[0], window[1], window[2]))
     }
 
     fn previous(&self, _window: &[u32]) -> Result<u32, RuleFault> {
         Err(RuleFault::NoInverse)
-    }
-}
-
-// Why a configuration is not drawn into a buffer of `room` cells, if it is not.
-fn draw_refusal(
-    machine: &Turing,
-    tape: &[u32],
-    position: usize,
-    state: u32,
-    room: usize,
-) -> Option<RuleFault>
-    ensures { result ≡ draw_fault (listed machine.now.symbols machine.now.heads machine.now.transitions.list) (record { tape = tape.entry.now; position = position; state = state }) room }
-{
-    if tape.is_empty() {
-        return Some(RuleFault::EmptyRing);
-    }
-    if position >= tape.len() {
-        return Some(RuleFault::OutOfRange);
-    }
-    if state >= machine.heads {
-        return Some(RuleFault::OutOfRange);
-    }
-    if let Some(index) = first_stray(tape, machine.symbols) {
-        return Some(RuleFault::BadEntry(index));
-    }
-    if room < tape.len() {
-        return Some(RuleFault::ShortBuffer);
-    }
-    None
-}
-
-// Writes the codes of a tape with one head.
-fn write_cells(symbols: u32, tape: &[u32], position: usize, state: u32, cells: &mut [u32])
-    requires sizes { (symbols ≤ 64) × ((state < 64) × (length cells.old ≡ length tape.now)) }
-    requires codes { Codes symbols tape.now }
-    ensures { cells.new ≡ tabulate (drawn_cell symbols tape.now position state) (length tape.now) }
-{
-    for i in 0..tape.len() {
-        let head = if i == position { Some(state) } else { None };
-        cells[i] = code_with(symbols, tape[i], head);
-    }
-}
-
-// The transition that the head on a cell with this code makes, if there is a head.
-fn transition_at(machine: &Turing, code: u32) -> Option<Transition>
-    requires { code < machine.now.symbols * (machine.now.heads + 1) }
-    ensures { result ≡ acts (listed machine.now.symbols machine.now.heads machine.now.transitions.list) code }
-{
-    let head = code / machine.symbols;
-    if head == 0 {
-        return None;
-    }
-    let index = (head - 1) * machine.symbols + code % machine.symbols;
-    Some(machine.transitions.list[index as usize])
-}
-
-// The next state of the head on a cell with this code, if there is a head and it makes this move.
-fn head_leaving(machine: &Turing, code: u32, step: Move) -> Option<u32>
-    requires { code < machine.now.symbols * (machine.now.heads + 1) }
-    ensures { result ≡ arriving (listed machine.now.symbols machine.now.heads machine.now.transitions.list) step code }
-{
-    match transition_at(machine, code) {
-        Some(transition) => {
-            if is_same(transition.step, step) {
-                Some(transition.next)
-            } else {
-                None
-            }
-        }
-        None => None,
-    }
-}
-
-// The next symbol of a cell with this code.
-fn symbol_after(machine: &Turing, code: u32) -> u32
-    requires { code < machine.now.symbols * (machine.now.heads + 1) }
-    ensures { result ≡ next_symbol (listed machine.now.symbols machine.now.heads machine.now.transitions.list) code }
-{
-    match transition_at(machine, code) {
-        Some(transition) => transition.write,
-        None => code % machine.symbols,
     }
 }
 
@@ -221,41 +195,11 @@ fn code_with(symbols: u32, symbol: u32, head: Option<u32>) -> u32
     }
 }
 
-// The next code of a cell, from its own code and those of its neighbours.
-fn next_code_of(machine: &Turing, left: u32, own: u32, right: u32) -> u32
-    requires { (left < machine.now.symbols * (machine.now.heads + 1)) × ((own < machine.now.symbols * (machine.now.heads + 1)) × (right < machine.now.symbols * (machine.now.heads + 1))) }
-    ensures { result ≡ next_code (listed machine.now.symbols machine.now.heads machine.now.transitions.list) left own right }
-{
-    let symbol = symbol_after(machine, own);
-    let stays = head_leaving(machine, own, Move::Stay);
-    let from_right = head_leaving(machine, right, Move::Left);
-    let head = head_leaving(machine, left, Move::Right).or(stays.or(from_right));
-    code_with(machine.symbols, symbol, head)
-}
-
 // Whether the sizes are those of a machine.
 fn fits(symbols: u32, heads: u32) -> bool
     ensures { result ≡ machine_fits symbols heads }
 {
-    1 <= symbols
-        && symbols <= MAX_SYMBOLS
-        && 1 <= heads
-        && heads <= MAX_HEADS
+    (1..=MAX_SYMBOLS).contains(&symbols)
+        && (1..=MAX_HEADS).contains(&heads)
         && (symbols * heads) as usize <= MAX_TRANSITIONS
-}
-
-// The transitions of a machine that changes nothing.
-fn idle_transitions(symbols: u32, heads: u32) -> Transitions
-    requires { machine_fits symbols heads ≡ true }
-    ensures { result.list ≡ new_list symbols heads }
-{
-    let mut list = [IDLE; MAX_TRANSITIONS];
-    for index in 0..symbols * heads {
-        list[index as usize] = Transition {
-            write: index % symbols,
-            step: Move::Stay,
-            next: index / symbols,
-        };
-    }
-    Transitions { list }
 }

@@ -1,5 +1,5 @@
 // Turing machines at the bounds of their sizes, and the rings that they draw.
-use machines::{Move, Turing};
+use machines::{Configuration, Move, Turing, UnknownMove};
 use rings::Direction;
 use rules::{Rule, RuleFault, map_ring};
 use std::test::Fail;
@@ -38,13 +38,12 @@ fn a_transition_has_bounds(rt: HostRuntime) -> Result<(), Fail> {
 #[test]
 fn moves_have_numbers(rt: HostRuntime) -> Result<(), Fail> {
     for number in 0..3 {
-        let Some(step) = Move::from_number(number) else {
-            return Err(Fail::new("no move"));
-        };
-        assert_eq!(rt; step.number(), number);
+        let step = Move::try_from(number)?;
+        assert_eq!(rt; u32::from(step), number);
     }
-    assert_eq!(rt; Move::from_number(3), None);
-    assert_eq!(rt; Move::from_number(0), Some(Move::Left));
+    assert_eq!(rt; Move::try_from(3).ok(), None);
+    assert_eq!(rt; Move::try_from(3), Err(UnknownMove(3)));
+    assert_eq!(rt; Move::try_from(0).ok(), Some(Move::Left));
     Ok(())
 }
 
@@ -75,30 +74,41 @@ fn heads_that_meet_leave_one(rt: HostRuntime) -> Result<(), Fail> {
     Ok(())
 }
 
+fn configuration(tape: &[u32], position: usize, state: u32) -> Configuration<'_> {
+    Configuration {
+        tape,
+        position,
+        state,
+    }
+}
+
 #[test]
 fn a_configuration_is_drawn(rt: HostRuntime) -> Result<(), Fail> {
     let machine = Turing::new(3, 2)?;
     let mut buffer = [9; 4];
-    assert_eq!(rt; machine.draw(&[2, 0, 1], 1, 1, &mut buffer), Ok(()));
+    assert_eq!(rt;
+        machine.draw(configuration(&[2, 0, 1], 1, 1), &mut buffer),
+        Ok(())
+    );
     assert_eq!(rt; buffer, [2, 6, 1, 9]);
     assert_eq!(rt;
-        machine.draw(&[], 0, 0, &mut buffer),
+        machine.draw(configuration(&[], 0, 0), &mut buffer),
         Err(RuleFault::EmptyRing)
     );
     assert_eq!(rt;
-        machine.draw(&[3], 1, 0, &mut buffer),
+        machine.draw(configuration(&[3], 1, 0), &mut buffer),
         Err(RuleFault::OutOfRange)
     );
     assert_eq!(rt;
-        machine.draw(&[3], 0, 2, &mut buffer),
+        machine.draw(configuration(&[3], 0, 2), &mut buffer),
         Err(RuleFault::OutOfRange)
     );
     assert_eq!(rt;
-        machine.draw(&[0, 0, 0, 0, 3], 0, 0, &mut buffer),
+        machine.draw(configuration(&[0, 0, 0, 0, 3], 0, 0), &mut buffer),
         Err(RuleFault::BadEntry(4))
     );
     assert_eq!(rt;
-        machine.draw(&[0, 0, 0, 0, 0], 0, 0, &mut buffer),
+        machine.draw(configuration(&[0, 0, 0, 0, 0], 0, 0), &mut buffer),
         Err(RuleFault::ShortBuffer)
     );
     assert_eq!(rt; buffer, [2, 6, 1, 9]);
