@@ -1,6 +1,6 @@
 // Comparing an evolution with what was published.
 use crate::vectors::{Beaver, Rows, Run};
-use machines::{Move, Turing};
+use machines::{Configuration, Move, Turing};
 use orbits::evolve;
 use rings::Direction;
 use rules::{RuleFault, Table};
@@ -22,8 +22,8 @@ pub(crate) struct Difference {
 // The busy beaver of two states, whose third state is the halt: a new machine's transitions change nothing.
 fn busy_beaver() -> Result<Turing, RuleFault> {
     let mut machine = Turing::new(2, 3)?;
-    let right = Move::Right.number();
-    let left = Move::Left.number();
+    let right = u32::from(Move::Right);
+    let left = u32::from(Move::Left);
     machine.enter(0, 1, right, 1)?;
     machine.enter(1, 1, left, 1)?;
     machine.enter(2, 1, left, 0)?;
@@ -46,7 +46,12 @@ pub(crate) fn check_beaver(heap: Global, published: &Beaver) -> anyhow::Result<O
     let machine = busy_beaver()?;
     let tape = vec![in heap; 0; BEAVER_CELLS]?;
     let mut ring = vec![in heap; 0; BEAVER_CELLS]?;
-    machine.draw(&tape, BEAVER_CELLS / 2, 0, &mut ring)?;
+    let start = Configuration {
+        tape: &tape,
+        position: BEAVER_CELLS / 2,
+        state: 0,
+    };
+    machine.draw(start, &mut ring)?;
     let mut steps = MAX_BEAVER_STEPS;
     for step in 0..MAX_BEAVER_STEPS {
         if has_halted(&ring) {

@@ -167,8 +167,8 @@ fn lift_identity(rt: &HostRuntime, totals: &mut Totals) -> anyhow::Result<()> {
 fn step_machine(rt: &HostRuntime, totals: &mut Totals) -> anyhow::Result<()> {
     let heap = rt.alloc();
     let mut machine = Turing::new(2, 1)?;
-    machine.enter(0, 1, Move::Right.number(), 0)?;
-    machine.enter(1, 0, Move::Left.number(), 0)?;
+    machine.enter(0, 1, u32::from(Move::Right), 0)?;
+    machine.enter(1, 0, u32::from(Move::Left), 0)?;
     let tape = evolve(heap, &machine, Direction::Forward, &[2, 0], 1)?;
     totals.compare(
         rt,
