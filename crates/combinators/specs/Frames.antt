@@ -5,12 +5,19 @@ use Rattle.rings.specs.Line.{tabulate}
 use Rattle.rings.specs.Local.{span}
 use Rattle.rules.specs.declared.Shape.{Shape}
 use Rattle.combinators.specs.declared.lift.Frame.{Frame}
-use Rattle.combinators.specs.Lifts.{hull_span, first_index, own_index, half}
+use Rattle.combinators.specs.Lifts.{hull_span, first_index, own_index, half, lifted_shape}
 
--- How a window of the lift of a rule lies.
+-- The lift of a rule of this shape, and how its windows lie.
 abbrev pub frame_of : Shape → Frame
-frame_of s = record { cells = hull_span s.lo s.hi; first = first_index s.lo; width = span s.lo s.hi; own = own_index s.lo }
+frame_of s = record {
+  states = s.states;
+  lift = lifted_shape s;
+  cells = hull_span s.lo s.hi;
+  first = first_index s.lo;
+  width = span s.lo s.hi;
+  own = own_index s.lo;
+}
 
 -- The halves that the rule reads, from a window that lies so.
-abbrev pub framed_halves : Shape → Frame → Direction → List ℕ → List ℕ
-framed_halves s fr d ws = tabulate (λ j. half d s.states (slice_index ws (fr.first + j))) fr.width
+abbrev pub framed_halves : Frame → Direction → List ℕ → List ℕ
+framed_halves f d ws = tabulate (λ j. half d f.states (slice_index ws (f.first + j))) f.width

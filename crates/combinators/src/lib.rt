@@ -5,4 +5,4 @@ mod choice;
 mod lift;
 
 pub use choice::Choice;
-pub use lift::{Lift, Unlifted};
+pub use lift::Lift;

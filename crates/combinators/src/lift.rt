@@ -1,23 +1,15 @@
 // The second-order lift of a rule, which makes it reversible.
-ghost use Rattle.std.specs.Prelude.{◌≡◌, ◌+◌, ◌*◌, ◌<◌, ◌≤◌, true, false, length, take, Some, MatchResult, slice_index};
-ghost use Rattle.rings.specs.Line.{tabulate};
+ghost use Rattle.std.specs.Prelude.{◌≡◌, ◌+◌, ◌*◌, ◌<◌, ◌≤◌, true, false, length, if◌then◌else◌, Some, None, MatchResult};
 ghost use Rattle.rings.specs.Automaton.{toward};
 ghost use Rattle.rules.specs.declared.fault.RuleFault.TheVariants.{Unliftable};
 ghost use Rattle.rules.specs.Answers.{shape_of, answer};
-ghost use Rattle.rules.specs.Steps.{Reads};
 ghost use Rattle.combinators.specs.Kinds.{lift_kind};
-ghost use Rattle.combinators.specs.Lifts.{half, rejoined, lifted, liftable, lift_or, lift_shape, LiftLaws};
-ghost use Rattle.combinators.specs.Frames.{frame_of};
+ghost use Rattle.combinators.specs.Lifts.{half, rejoined, lifted, liftable, lift_or, LiftLaws};
+ghost use Rattle.combinators.specs.Frames.{frame_of, framed_halves};
 ghost use Rattle.combinators.specs.LiftsLemmas.{lawful_lift_or};
 
-use rings::{Direction, interval_width};
+use rings::{Direction, MAX_STATES, MAX_WIDTH, Refused, interval_width, power_within};
 use rules::{Rule, RuleFault, Shape, check_window};
-
-const LIFT_KIND: u16 = 0x0020;
-
-const MAX_STATES: u64 = 16_777_216;
-
-const MAX_WIDTH: usize = 64;
 
 // A lift over a rule. Over a rule that cannot be lifted it acts as the rule itself.
 #[derive(Drop)]
@@ -25,27 +17,19 @@ pub struct Lift<R> {
     rule: R,
 }
 
-// Why a rule was not lifted, and the rule.
-#[derive(Drop)]
-pub struct Unlifted<R> {
-    pub fault: RuleFault,
-    pub rule: R,
-}
-
 impl<R: Rule> Lift<R> {
     // The lift of a rule; a rule that cannot be lifted comes back with the refusal.
-    pub fn build(rule: R) -> Result<Lift<R>, Unlifted<R>>
-        ensures answer { MatchResult result (λ l. (liftable (shape_of (R.Rule.meaning rule)) ≡ true) × (l.rule ≡ rule)) (λ e. (liftable (shape_of (R.Rule.meaning rule)) ≡ false) × (e.fault ≡ Unliftable) × (e.rule ≡ rule)) }
+    pub fn build(rule: R) -> Result<Lift<R>, Refused<R, RuleFault>>
+        ensures answer { MatchResult result (λ l. (liftable (shape_of (R.Rule.meaning rule)) ≡ true) × (l.rule ≡ rule)) (λ e. (liftable (shape_of (R.Rule.meaning rule)) ≡ false) × (e.fault ≡ Unliftable) × (e.given ≡ rule)) }
         ensures law { LiftLaws (R.Rule.meaning rule) }
     {
-        if is_liftable(rule.shape()) {
-            Ok(Lift { rule })
-        } else {
-            Err(Unlifted {
+        if Frame::of(rule.shape()).is_none() {
+            return Err(Refused {
                 fault: RuleFault::Unliftable,
-                rule,
-            })
+                given: rule,
+            });
         }
+        Ok(Lift { rule })
     }
 
     // A lift over any rule: it never refuses, and acts as a rule that cannot be lifted.
@@ -55,115 +39,125 @@ impl<R: Rule> Lift<R> {
     {
         Lift { rule }
     }
+
+    // The code of a cell one step on in a direction.
+    fn answer(&self, direction: Direction, window: &[u32]) -> Result<u32, RuleFault>
+        ensures { result ≡ answer (lift_or (R.Rule.meaning self.now.rule)).states (toward direction (lift_or (R.Rule.meaning self.now.rule))) window.now }
+    {
+        match Frame::of(self.rule.shape()) {
+            Some(frame) => frame.answer(&self.rule, direction, window),
+            None => self.rule.step(direction, window),
+        }
+    }
 }
 
 impl<R: Rule> Rule for Lift<R> {
-    const KIND: u16 = LIFT_KIND;
+    const KIND: u16 = 0x0020;
 
-    ghost kind = { lift_kind };
+    ghost KIND = { lift_kind };
 
     ghost meaning = { λ l. lift_or (R.Rule.meaning l.rule) };
 
     ghost lawful = { λ x. lawful_lift_or _ (R.Rule.lawful x.rule) };
 
-    fn kind_number() -> u16 {
-        LIFT_KIND
-    }
-
     fn shape(&self) -> Shape {
-        shape_over(self.rule.shape())
+        let shape = self.rule.shape();
+        Frame::of(shape).map_or(shape, |frame| frame.lift)
     }
 
     fn inverse(&self) -> Option<(i32, i32)> {
-        let shape = self.rule.shape();
-        if is_liftable(shape) {
-            Some((shape.lo.min(0), shape.hi.max(0)))
-        } else {
-            self.rule.inverse()
+        match Frame::of(self.rule.shape()) {
+            Some(frame) => Some((frame.lift.lo, frame.lift.hi)),
+            None => self.rule.inverse(),
         }
     }
 
     fn next(&self, window: &[u32]) -> Result<u32, RuleFault> {
-        let shape = self.rule.shape();
-        if is_liftable(shape) {
-            step(&self.rule, shape, Direction::Forward, window)
-        } else {
-            self.rule.next(window)
-        }
+        self.answer(Direction::Forward, window)
     }
 
     fn previous(&self, window: &[u32]) -> Result<u32, RuleFault> {
-        let shape = self.rule.shape();
-        if is_liftable(shape) {
-            step(&self.rule, shape, Direction::Backward, window)
-        } else {
-            self.rule.previous(window)
-        }
+        self.answer(Direction::Backward, window)
     }
 }
 
-// A window of the lift: how many cells it has, the index of the first cell that the rule reads, how many it reads, and the index
-// of the cell itself.
+// The lift of a rule that can be lifted: its shape, and how its windows lie.
 #[derive(Clone, Copy)]
 struct Frame {
+    // The number of states of the rule.
+    states: u32,
+    // The shape of the lift.
+    lift: Shape,
+    // How many cells a window of the lift has.
     cells: usize,
+    // The index of the first cell that the rule reads, how many it reads, and the index of the cell itself.
     first: usize,
     width: usize,
     own: usize,
 }
 
-fn framed(shape: Shape) -> Frame
-    ensures { result ≡ frame_of shape }
-{
-    let lo = shape.lo.min(0);
-    Frame {
-        cells: interval_width(lo, shape.hi.max(0)),
-        first: interval_width(lo, shape.lo) - 1,
-        width: interval_width(shape.lo, shape.hi),
-        own: interval_width(lo, 0) - 1,
-    }
-}
-
-fn is_liftable(shape: Shape) -> bool
-    ensures { result ≡ liftable shape }
-{
-    let states = u64::from(shape.states);
-    states * states <= MAX_STATES && framed(shape).cells <= MAX_WIDTH
-}
-
-// The shape of a lift over a rule of this shape.
-fn shape_over(shape: Shape) -> Shape
-    ensures { result ≡ lift_shape shape }
-{
-    if is_liftable(shape) {
-        Shape {
-            states: shape.states * shape.states,
-            lo: shape.lo.min(0),
-            hi: shape.hi.max(0),
+impl Frame {
+    // The frame of a rule of this shape, if the rule can be lifted.
+    fn of(shape: Shape) -> Option<Frame>
+        ensures { result ≡ (if liftable shape then Some (frame_of shape) else None) }
+    {
+        let states = power_within(shape.states, 2, MAX_STATES)?;
+        let lo = shape.lo.min(0);
+        let hi = shape.hi.max(0);
+        let cells = interval_width(lo, hi);
+        if cells > MAX_WIDTH {
+            return None;
         }
-    } else {
-        shape
+        Some(Frame {
+            states: shape.states,
+            lift: Shape { states, lo, hi },
+            cells,
+            first: interval_width(lo, shape.lo) - 1,
+            width: interval_width(shape.lo, shape.hi),
+            own: interval_width(lo, 0) - 1,
+        })
+    }
+
+    // Writes the halves that the rule reads, from a window of the lift.
+    fn read_halves(self, direction: Direction, window: &[u32], halves: &mut [u32])
+        requires some { 1 ≤ self.states }
+        requires inside { self.first + self.width ≤ length window.now }
+        requires room { length halves.old ≡ self.width }
+        ensures { halves.new ≡ framed_halves self direction window.now }
+    {
+        for (i, cell) in halves.iter_mut().enumerate() {
+            *cell = half(direction, self.states, window[self.first + i]);
+        }
+    }
+
+    // The code of a cell one step on in a direction, by the lift of the rule whose frame this is.
+    fn answer<R: Rule>(
+        self,
+        rule: &R,
+        direction: Direction,
+        window: &[u32],
+    ) -> Result<u32, RuleFault>
+        requires small { liftable (shape_of (R.Rule.meaning rule.now)) ≡ true }
+        requires frame { self ≡ frame_of (shape_of (R.Rule.meaning rule.now)) }
+        ensures { result ≡ answer (lifted (R.Rule.meaning rule.now)).states (toward direction (lifted (R.Rule.meaning rule.now))) window.now }
+    {
+        check_window(window, self.lift.states, self.cells)?;
+        let mut store = [0; MAX_WIDTH];
+        let halves = &mut store[0..self.width];
+        self.read_halves(direction, window, halves);
+        let value = rule.next(halves)?;
+        Ok(rejoin(direction, self.states, value, window[self.own]))
     }
 }
 
-// Writes the half of each code that the rule reads, of `width` codes from the index `first` on, over the first cells.
-fn write_halves(
-    window: &[u32],
-    direction: Direction,
-    states: u32,
-    first: usize,
-    width: usize,
-    cells: &mut [u32],
-)
-    requires { (1 ≤ states) × ((first + width ≤ length window.now) × (width ≤ length cells.old)) }
-    ensures { take width cells.new ≡ tabulate (λ j. half direction states (slice_index window.now (first + j))) width }
+// The half of a code of the lift that the rule reads.
+fn half(direction: Direction, states: u32, code: u32) -> u32
+    requires { 1 ≤ states }
+    ensures { result ≡ half direction states code }
 {
-    for i in 0..width {
-        let code = window[first + i];
-        cells[i] = match direction {
-            Direction::Forward => code % states,
-            Direction::Backward => code / states,
-        };
+    match direction {
+        Direction::Forward => code % states,
+        Direction::Backward => code / states,
     }
 }
 
@@ -178,32 +172,4 @@ fn rejoin(direction: Direction, states: u32, value: u32, own: u32) -> u32
         Direction::Forward => (value + (states - before)) % states + states * now,
         Direction::Backward => before + states * ((value + (states - now)) % states),
     }
-}
-
-// The code that a rule gives at a window of its own.
-fn apply<R: Rule>(rule: &R, window: &[u32]) -> u32
-    requires { Reads (R.Rule.meaning rule.now).states (Some (R.Rule.meaning rule.now).forward) window.now }
-    ensures { result ≡ (R.Rule.meaning rule.now).forward.value window.now }
-{
-    rule.next(window).unwrap_or(0)
-}
-
-// What the lift of a rule that can be lifted answers.
-fn step<R: Rule>(
-    rule: &R,
-    shape: Shape,
-    direction: Direction,
-    window: &[u32],
-) -> Result<u32, RuleFault>
-    requires { (shape ≡ shape_of (R.Rule.meaning rule.now)) × (liftable shape ≡ true) }
-    ensures { result ≡ answer (shape.states * shape.states) (toward direction (lifted (R.Rule.meaning rule.now))) window.now }
-{
-    let states = shape.states;
-    let frame = framed(shape);
-    let width = frame.width;
-    check_window(window, states * states, frame.cells)?;
-    let mut halves = [0; MAX_WIDTH];
-    write_halves(window, direction, states, frame.first, width, &mut halves);
-    let value = apply(rule, &halves[0..width]);
-    Ok(rejoin(direction, states, value, window[frame.own]))
 }

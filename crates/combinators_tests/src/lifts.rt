@@ -65,18 +65,18 @@ fn a_lifted_rule_runs_forward_and_back(rt: HostRuntime) -> Result<(), Fail> {
 
 #[test]
 fn a_rule_that_is_too_wide_comes_back(rt: HostRuntime) -> Result<(), Fail> {
-    let Err(unlifted) = Lift::build(Table::new(1, 1, 64, &[0])?) else {
+    let Err(refused) = Lift::build(Table::new(1, 1, 64, &[0])?) else {
         return Err(Fail::new("lifted"));
     };
-    assert_eq!(rt; unlifted.fault.number(), 11);
-    assert_eq!(rt; unlifted.fault.place(), 0);
+    assert_eq!(rt; refused.fault.number(), 11);
+    assert_eq!(rt; refused.fault.place(), 0);
     let shape = Shape {
         states: 1,
         lo: 1,
         hi: 64,
     };
-    assert_eq!(rt; unlifted.rule.shape(), shape);
-    assert_eq!(rt; Lift::over(unlifted.rule).shape(), shape);
+    assert_eq!(rt; refused.given.shape(), shape);
+    assert_eq!(rt; Lift::over(refused.given).shape(), shape);
     assert!(rt; Lift::build(Table::new(1, 1, 63, &[0])?).is_ok());
     Ok(())
 }
@@ -103,9 +103,7 @@ fn a_choice_goes_by_its_number(rt: HostRuntime) {
 
 #[test]
 fn every_kind_has_its_number(rt: HostRuntime) {
-    assert_eq!(rt; <Lift<Table> as Rule>::kind_number(), 0x0020);
     assert_eq!(rt; <Lift<Table> as Rule>::KIND, 0x0020);
-    assert_eq!(rt; <Choice<Table, Table> as Rule>::kind_number(), 0x0000);
     assert_eq!(rt; <Choice<Table, Table> as Rule>::KIND, 0x0000);
     assert_eq!(rt; <Table as Rule>::KIND, 0x0010);
 }

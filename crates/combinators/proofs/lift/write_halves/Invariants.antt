@@ -1,6 +1,0 @@
-use Rattle.std.proofs.Common.{◌≡◌, ℕ, ◌+◌, ◌<◌, get_or}
-use Rattle.combinators.specs.Lifts.{half}
-use Rattle.combinators.proofs.lift.write_halves.Given as goal
-
-abbrev pub invariant-loop-i : goal.invariant-loop-i
-invariant-loop-i l = (k : ℕ) → k < l.i → get_or l.cells k 0 ≡ half l.direction l.states (get_or l.window (l.first + k) 0)
