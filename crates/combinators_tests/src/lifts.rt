@@ -1,26 +1,9 @@
 // Lifts and choices.
 use combinators::{Choice, Lift};
+use orbits::evolve;
 use rings::Direction;
-use rules::{Rule, RuleFault, Shape, Table, map_ring};
-use std::alloc::Global;
+use rules::{Rule, RuleFault, Shape, Table};
 use std::test::Fail;
-
-// The ring after so many steps.
-fn evolve<R: Rule>(
-    heap: Global,
-    rule: &R,
-    direction: Direction,
-    ring: &[u32],
-    steps: usize,
-) -> anyhow::Result<Vec<u32>> {
-    let mut current = Vec::from_slice(heap, ring)?;
-    let mut next = Vec::from_slice(heap, ring)?;
-    for _step in 0..steps {
-        map_ring(rule, direction, &current, &mut next)?;
-        std::mem::swap(&mut current, &mut next);
-    }
-    Ok(current)
-}
 
 #[test]
 fn the_identity_on_three_states_lifted(rt: HostRuntime) -> Result<(), Fail> {
