@@ -2,7 +2,7 @@
 use Rattle.std.proofs.Common.{◌≡◌, ℕ, zero, suc, ◌+◌, ◌-◌, ◌*◌, ◌^◌, ◌<◌, ◌≤◌, List, ◌++◌, reverse, length, get_or, take, drop, set, Some, None, Ok, Err, Option, sym, refl, ap, ◌∙◌, subst, ap₂, mul-le-mul_right, add-mul, mul-le-mul, add-one, arith, take-add}
 use lib.Arith.{digits_div, digits_mod}
 use native.Mathlib.Nat.{pow-le-pow_right}
-use Rattle.std.proofs.lemmas.List.{length-take, length-drop, length-take-le, get_or-take, get_or-drop, drop-drop, drop-set-lt, length-reverse, get_or-reverse}
+use Rattle.std.proofs.lemmas.List.{length-take, length-drop, length-take-le, get_or-take, get_or-drop, drop-drop, drop-set-lt, drop-take, take-take, length-reverse, get_or-reverse}
 use Rattle.std.specs.Option.{option_map}
 use Rattle.rings.specs.declared.Direction.{Direction}
 use Rattle.rings.specs.Line.{tabulate, power}
@@ -20,7 +20,7 @@ use Rattle.rules.specs.Answers.{answer, checked}
 use Rattle.rules.specs.Steps.{value_of, Reads, part}
 use Rattle.rules.specs.Windows.{Readable, readable, checked_readable, checked_refused}
 use Rattle.rules.specs.TablesLemmas.{pow_more}
-use Rattle.rules.proofs.Maps.{Usable, usable, part_of_front, answer-reads}
+use Rattle.rules.proofs.Maps.{Usable, usable, answer-reads}
 use Rattle.floors.specs.declared.apply.Blocks.{Blocks}
 use Rattle.floors.specs.Asking.{HasWidth, Packing, blocks_answer}
 use Rattle.towers.specs.Numbers.{Standing}
@@ -68,6 +68,12 @@ multiple_more i n m h =
     (more, omega arith)
 
 -- parts of a list
+
+-- a part of the first n cells
+part_of_front : (n w i : ℕ) (cells : List ℕ) → i + w ≤ n → part cells i w ≡ part (take n cells) i w
+part_of_front n w i cells fits =
+    let split : n ≡ i + (n - i) = omega arith in
+    sym (ap (λ k. take w (drop i (take k cells))) split ∙ ap (take w) (drop-take i (n - i) cells) ∙ take-take w (n - i) (drop i cells) (omega arith))
 
 -- a part that lies inside
 pub part-readable : (q w i : ℕ) (cells : List ℕ) → i + w ≤ length cells → Codes q cells → Readable q w (part cells i w)

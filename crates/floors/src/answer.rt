@@ -7,7 +7,7 @@ ghost use Rattle.floors.specs.Actions.{floor_or};
 ghost use Rattle.floors.specs.Asking.{blocks_of, interval, along as along_of};
 
 use crate::Action;
-use crate::apply::{Blocks, answered, iterated, mirrored, packed};
+use crate::apply::{Blocks, iterated, mirrored, packed};
 use crate::numbers::{act, end_modulo, pack_ends, reduced_block, shift_ends};
 use rings::{Direction, interval_width};
 use rules::RuleFault;
@@ -62,14 +62,14 @@ pub(crate) fn floor_answer<T: Tower>(
 {
     let x = below.numbers();
     let Some(top) = act(action, x) else {
-        return answered(below, direction, window);
+        return below.step(direction, window);
     };
     let Some(ends) = interval_of(x, direction) else {
-        return answered(below, direction, window);
+        return below.step(direction, window);
     };
     let width = interval_width(ends.0, ends.1);
     match action {
-        Action::Unchanged | Action::Shift(_) => answered(below, direction, window),
+        Action::Unchanged | Action::Shift(_) => below.step(direction, window),
         Action::Iterate(times) => iterated(below, direction, x.states, width, times, window),
         Action::Mirror => mirrored(below, direction, x.states, width, window),
         Action::Pack(m) => {

@@ -10,36 +10,19 @@ ghost use Rattle.rules.specs.Answers.{answer};
 ghost use Rattle.rules.specs.Steps.{value_of, Reads};
 ghost use Rattle.floors.specs.Asking.{HasWidth, Packing, blocks_answer};
 
-use rings::Direction;
-use rules::{RuleFault, check_window};
-use towers::Tower;
+use rings::{Direction, MAX_WIDTH};
+use rules::{Rule, RuleFault, check_window};
 
-// Room for the widest window.
-const MAX_WIDTH: usize = 64;
 // Room for the digits of the widest window: 64 cells of 16 digits.
 const MAX_DIGITS: usize = 1024;
 
-// What the top answers, in a direction.
-pub(crate) fn answered<T: Tower>(
-    tower: &T,
-    direction: Direction,
-    window: &[u32],
-) -> Result<u32, RuleFault>
-    ensures { result ≡ answer (T.Tower.tower tower.now).top.states (toward direction (T.Tower.tower tower.now).top) window.now }
-{
-    match direction {
-        Direction::Forward => tower.top_next(window),
-        Direction::Backward => tower.top_previous(window),
-    }
-}
-
 // The code that the top gives at a window of its own.
-pub(crate) fn apply<T: Tower>(tower: &T, direction: Direction, window: &[u32]) -> u32
-    requires { Reads (T.Tower.tower tower.now).top.states (toward direction (T.Tower.tower tower.now).top) window.now }
-    ensures value { result ≡ value_of (toward direction (T.Tower.tower tower.now).top) window.now }
-    ensures below { result < (T.Tower.tower tower.now).top.states }
+pub(crate) fn apply<R: Rule>(rule: &R, direction: Direction, window: &[u32]) -> u32
+    requires { Reads (R.Rule.meaning rule.now).states (toward direction (R.Rule.meaning rule.now)) window.now }
+    ensures value { result ≡ value_of (toward direction (R.Rule.meaning rule.now)) window.now }
+    ensures below { result < (R.Rule.meaning rule.now).states }
 {
-    answered(tower, direction, window).unwrap_or(0)
+    rule.step(direction, window).unwrap_or(0)
 }
 
 // The window at the front of a row.
@@ -53,57 +36,57 @@ fn row_of(window: &[u32]) -> [u32; MAX_WIDTH]
 }
 
 // Puts the next row, which is width - 1 cells shorter, in place of the first cells of a row.
-fn advance_row<T: Tower>(tower: &T, direction: Direction, width: usize, row: &mut [u32])
-    requires width { (HasWidth (toward direction (T.Tower.tower tower.now).top) width) × ((width ≤ length row.old) × (length row.old ≤ 64)) }
-    requires codes { Codes (T.Tower.tower tower.now).top.states row.old }
-    ensures { take (length row.old + 1 - width) row.new ≡ map_list_windows (value_of (toward direction (T.Tower.tower tower.now).top)) width row.old }
+fn advance_row<R: Rule>(rule: &R, direction: Direction, width: usize, row: &mut [u32])
+    requires width { (HasWidth (toward direction (R.Rule.meaning rule.now)) width) × ((width ≤ length row.old) × (length row.old ≤ 64)) }
+    requires codes { Codes (R.Rule.meaning rule.now).states row.old }
+    ensures { take (length row.old + 1 - width) row.new ≡ map_list_windows (value_of (toward direction (R.Rule.meaning rule.now))) width row.old }
 {
     for i in 0..row.len() + 1 - width {
-        row[i] = apply(tower, direction, &row[i..i + width]);
+        row[i] = apply(rule, direction, &row[i..i + width]);
     }
 }
 
 // What the top answers for `times` steps at once.
-pub(crate) fn iterated<T: Tower>(
-    tower: &T,
+pub(crate) fn iterated<R: Rule>(
+    rule: &R,
     direction: Direction,
     states: u32,
     width: usize,
     times: u32,
     window: &[u32],
 ) -> Result<u32, RuleFault>
-    requires width { (HasWidth (toward direction (T.Tower.tower tower.now).top) width) × ((width ≤ 64) × (times * (width - 1) + 1 ≤ 64)) }
-    requires states { states ≡ (T.Tower.tower tower.now).top.states }
-    ensures { result ≡ answer states (option_map (iterate_local times) (toward direction (T.Tower.tower tower.now).top)) window.now }
+    requires width { (HasWidth (toward direction (R.Rule.meaning rule.now)) width) × ((width ≤ 64) × (times * (width - 1) + 1 ≤ 64)) }
+    requires states { states ≡ (R.Rule.meaning rule.now).states }
+    ensures { result ≡ answer states (option_map (iterate_local times) (toward direction (R.Rule.meaning rule.now))) window.now }
 {
     let shorter = width - 1;
     let mut count = times as usize * shorter + 1;
     check_window(window, states, count)?;
     let mut row = row_of(window);
     for _i in 0..times {
-        advance_row(tower, direction, width, &mut row[0..count]);
+        advance_row(rule, direction, width, &mut row[0..count]);
         count -= shorter;
     }
     Ok(row[0])
 }
 
 // What the top answers, seen in a mirror. The window is checked before it is reversed.
-pub(crate) fn mirrored<T: Tower>(
-    tower: &T,
+pub(crate) fn mirrored<R: Rule>(
+    rule: &R,
     direction: Direction,
     states: u32,
     width: usize,
     window: &[u32],
 ) -> Result<u32, RuleFault>
-    requires width { (HasWidth (toward direction (T.Tower.tower tower.now).top) width) × (width ≤ 64) }
-    requires states { states ≡ (T.Tower.tower tower.now).top.states }
-    ensures { result ≡ answer states (option_map mirror_local (toward direction (T.Tower.tower tower.now).top)) window.now }
+    requires width { (HasWidth (toward direction (R.Rule.meaning rule.now)) width) × (width ≤ 64) }
+    requires states { states ≡ (R.Rule.meaning rule.now).states }
+    ensures { result ≡ answer states (option_map mirror_local (toward direction (R.Rule.meaning rule.now))) window.now }
 {
     check_window(window, states, width)?;
     let mut row = row_of(window);
     let turned = &mut row[0..width];
     turned.reverse();
-    Ok(apply(tower, direction, turned))
+    Ok(apply(rule, direction, turned))
 }
 
 // Writes the lowest digits of a code in the base `states`, as many as there are cells.
@@ -142,14 +125,14 @@ pub(crate) struct Blocks {
 }
 
 // What the top answers on blocks.
-pub(crate) fn packed<T: Tower>(
-    tower: &T,
+pub(crate) fn packed<R: Rule>(
+    rule: &R,
     direction: Direction,
     blocks: Blocks,
     window: &[u32],
 ) -> Result<u32, RuleFault>
-    requires { Packing (T.Tower.tower tower.now).top direction blocks }
-    ensures { result ≡ blocks_answer (toward direction (T.Tower.tower tower.now).top) blocks window.now }
+    requires { Packing (R.Rule.meaning rule.now) direction blocks }
+    ensures { result ≡ blocks_answer (toward direction (R.Rule.meaning rule.now)) blocks window.now }
 {
     check_window(window, blocks.total, blocks.cells)?;
     let mut unpacked = [0; MAX_DIGITS];
@@ -158,7 +141,7 @@ pub(crate) fn packed<T: Tower>(
     let mut weight = 1;
     for j in 0..blocks.block {
         let start = j as usize + blocks.skip;
-        let value = apply(tower, direction, &unpacked[start..start + blocks.width]);
+        let value = apply(rule, direction, &unpacked[start..start + blocks.width]);
         code += value * weight;
         weight *= blocks.states;
     }

@@ -1,5 +1,5 @@
 // A floor: an action on the tower below it.
-ghost use Rattle.std.specs.Prelude.{◌≡◌, ◌/◌, ◌<◌, ◌≤◌, true, ◌&&◌, Some, None, MatchResult};
+ghost use Rattle.std.specs.Prelude.{◌≡◌, ◌/◌, ◌<◌, ◌≤◌, true, ◌&&◌, Some, None, MatchResult, refl};
 ghost use Rattle.towers.specs.Numbers.{numbers_of};
 ghost use Rattle.floors.specs.Actions.{in_range, fits, floor_or};
 ghost use Rattle.floors.specs.Acting.{Workable};
@@ -16,8 +16,6 @@ use crate::numbers::{act, is_in_range, reduced_block};
 use rings::Direction;
 use rules::{Rule, RuleFault, Shape};
 use towers::{Numbers, Place, Tower, TowerFault};
-
-const FLOOR_KIND: u16 = 0x0030;
 
 // A floor over a tower. Where the action is out of range or does not fit, it acts as the tower below.
 #[derive(Drop)]
@@ -54,48 +52,14 @@ impl<T: Tower> Floor<T> {
     }
 }
 
-impl<T: Tower> Tower for Floor<T> {
-    const KIND: u16 = FLOOR_KIND;
-
-    ghost kind = { floor_kind };
-
-    ghost tower = { λ x. floor_or x.action (T.Tower.tower x.below) };
-
-    ghost stands = { λ x. floor_standing x.action _ (T.Tower.stands x.below) };
-
-    fn tower_kind() -> u16 {
-        FLOOR_KIND
-    }
-
-    fn numbers(&self) -> Numbers {
-        floor_numbers(&self.below, self.action)
-    }
-
-    fn top_next(&self, window: &[u32]) -> Result<u32, RuleFault> {
-        floor_answer(&self.below, self.action, Direction::Forward, window)
-    }
-
-    fn top_previous(&self, window: &[u32]) -> Result<u32, RuleFault> {
-        floor_answer(&self.below, self.action, Direction::Backward, window)
-    }
-
-    fn place(&self, n: usize, j: usize) -> Result<Place, TowerFault> {
-        floor_place(&self.below, self.action, n, j)
-    }
-}
-
 impl<T: Tower> Rule for Floor<T> {
-    const KIND: u16 = FLOOR_KIND;
+    const KIND: u16 = 0x0030;
 
-    ghost kind = { floor_kind };
+    ghost KIND = { floor_kind };
 
     ghost meaning = { λ x. (floor_or x.action (T.Tower.tower x.below)).top };
 
     ghost lawful = { λ x. top_lawful _ (floor_standing x.action _ (T.Tower.stands x.below)) };
-
-    fn kind_number() -> u16 {
-        Self::tower_kind()
-    }
 
     fn shape(&self) -> Shape {
         let numbers = self.numbers();
@@ -111,11 +75,27 @@ impl<T: Tower> Rule for Floor<T> {
     }
 
     fn next(&self, window: &[u32]) -> Result<u32, RuleFault> {
-        self.top_next(window)
+        floor_answer(&self.below, self.action, Direction::Forward, window)
     }
 
     fn previous(&self, window: &[u32]) -> Result<u32, RuleFault> {
-        self.top_previous(window)
+        floor_answer(&self.below, self.action, Direction::Backward, window)
+    }
+}
+
+impl<T: Tower> Tower for Floor<T> {
+    ghost tower = { λ x. floor_or x.action (T.Tower.tower x.below) };
+
+    ghost stands = { λ x. floor_standing x.action _ (T.Tower.stands x.below) };
+
+    ghost is_top = { λ x. refl };
+
+    fn numbers(&self) -> Numbers {
+        floor_numbers(&self.below, self.action)
+    }
+
+    fn place(&self, n: usize, j: usize) -> Result<Place, TowerFault> {
+        floor_place(&self.below, self.action, n, j)
     }
 }
 

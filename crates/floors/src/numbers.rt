@@ -1,5 +1,5 @@
 // What an action makes of the numbers of a tower.
-ghost use Rattle.std.specs.Prelude.{◌≡◌, ◌^◌, ◌≤◌, pos, ◌+ℤ◌, ◌*ℤ◌, neg_ℤ, if◌then◌else◌, Some, None, nat_le, unsigned_abs};
+ghost use Rattle.std.specs.Prelude.{◌≡◌, ◌≤◌, pos, ◌+ℤ◌, ◌*ℤ◌, neg_ℤ, unsigned_abs};
 ghost use Rattle.std.specs.Option.{option_map};
 ghost use Rattle.rings.specs.Integers.{floor_mod};
 ghost use Rattle.floors.specs.declared.action.Action.TheVariants.{Reduce};
@@ -8,22 +8,14 @@ ghost use Rattle.floors.specs.Actions.{iterate_ends, shift_ends, mirror_ends, pa
 ghost use Rattle.floors.specs.Acting.{LawfulEnds, LawfulInverse, Packable, Workable, limited, acted};
 
 use crate::Action;
-use rings::interval_width;
+use rings::{MAX_END, MAX_STATES, MAX_WIDTH, MIN_END, interval_width, power_within};
 use towers::Numbers;
-
-const MAX_STATES: u32 = 16_777_216;
 
 const MAX_BLOCK: u32 = 65_536;
 
 const MAX_STEPS: u32 = 65_536;
 
 const MAX_DRIFT: u32 = 16_777_216;
-
-const MIN_END: i32 = -128;
-
-const MAX_END: i32 = 128;
-
-const MAX_WIDTH: usize = 64;
 
 const MAX_ARGUMENT: u32 = 16;
 
@@ -240,27 +232,12 @@ fn pack_inverse(inverse: Option<(i32, i32)>, m: u32) -> Option<(i32, i32)>
     Some(pack_ends(inverse?, m))
 }
 
-// `base` to the power `exponent`, if that is a number of states.
-fn power_within(base: u32, exponent: u32) -> Option<u32>
-    requires { (1 ≤ base) × (base ≤ 16777216) }
-    ensures { result ≡ (if nat_le (base ^ exponent) 16777216 then Some (base ^ exponent) else None) }
-{
-    let mut power = 1;
-    for _i in 0..exponent {
-        power *= u64::from(base);
-        if power > u64::from(MAX_STATES) {
-            return None;
-        }
-    }
-    Some(power as u32)
-}
-
 // The numbers on blocks of m cells, if they are within their limits.
 fn pack(x: Numbers, m: u32) -> Option<Numbers>
     requires { (Packable x) × ((1 ≤ m) × (m ≤ 16)) }
     ensures { result ≡ limited (pack_numbers m x) }
 {
-    let states = power_within(x.states, m)?;
+    let states = power_within(x.states, m, MAX_STATES)?;
     let (lo, hi) = pack_ends((x.lo, x.hi), m);
     let inverse = pack_inverse(x.inverse, m);
     limit(Numbers {

@@ -8,7 +8,7 @@ use Rattle.floors.proofs.apply.advance_row.Goals as goal
 
 pub apply-requires : goal.apply-requires
 apply-requires g c =
-    let a = (g.T.Tower.tower c.args.tower.now).top in
+    let a = (g.R.Rule.meaning c.args.rule.now) in
     let o = toward c.args.direction a in
     let w = c.args.width in
     let i = c.loop-i.i in
@@ -19,7 +19,7 @@ apply-requires g c =
 
 pub loop-i-preserved : goal.loop-i-preserved
 loop-i-preserved g c =
-    let o = toward c.args.direction (g.T.Tower.tower c.args.tower.now).top in
+    let o = toward c.args.direction (g.R.Rule.meaning c.args.rule.now) in
     let w = c.args.width in
     let i = c.loop-i.i in
     let row = c.args.row.now in
@@ -32,7 +32,7 @@ loop-i-preserved g c =
 
 pub returns : goal.returns
 returns g c =
-    let o = toward c.args.direction (g.T.Tower.tower c.args.tower.now).top in
+    let o = toward c.args.direction (g.R.Rule.meaning c.args.rule.now) in
     let row = c.args.row.now in
     row_done (value_of o) c.args.width (length row + 1 - c.args.width) row c.loop-i.row (omega arith) (omega (arith, c.loop-i.invariant.2, some-width o c.args.width c.requires.width.0))
     (λ k l. c.loop-i.invariant.0 k (omega (arith, c.loop-i-test.false)))

@@ -5,5 +5,5 @@ use Rattle.floors.proofs.apply.advance_row.Given as goal
 
 abbrev pub invariant-loop-i : goal.invariant-loop-i
 invariant-loop-i g l =
-    ((k : ℕ) → k < l.i → get_or l.row k 0 ≡ value_of (toward l.direction (g.T.Tower.tower l.tower).top) (part l.initial.row k l.width))
+    ((k : ℕ) → k < l.i → get_or l.row k 0 ≡ value_of (toward l.direction (g.R.Rule.meaning l.rule)) (part l.initial.row k l.width))
     × (drop l.i l.row ≡ drop l.i l.initial.row) × (length l.row ≡ length l.initial.row)

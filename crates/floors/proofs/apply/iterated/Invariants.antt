@@ -7,5 +7,5 @@ use Rattle.floors.proofs.apply.iterated.Given as goal
 
 abbrev pub invariant-loop-i : goal.invariant-loop-i
 invariant-loop-i g l =
-    (take l.count l.row ≡ power (map_list_windows (value_of (toward l.direction (g.T.Tower.tower l.tower).top)) l.width) l._i l.window)
+    (take l.count l.row ≡ power (map_list_windows (value_of (toward l.direction (g.R.Rule.meaning l.rule))) l.width) l._i l.window)
     × (l.count + l._i * (l.width - 1) ≡ l.times * (l.width - 1) + 1) × (length l.row ≡ 64)

@@ -12,7 +12,7 @@ use Rattle.floors.proofs.apply.mirrored.Goals.{After-reverse}
 
 pub returns-in_err-check_window : goal.returns-in_err-check_window
 returns-in_err-check_window g c =
-    let o = toward c.args.direction (g.T.Tower.tower c.args.tower.now).top in
+    let o = toward c.args.direction (g.R.Rule.meaning c.args.rule.now) in
     let p = err_from_is_err_and c.from_residual.result c.from_residual.ensures.1 in
     rw (p.1, p.2) (answer-refused c.args.states (option_map mirror_local o) c.args.width c.args.window.now _ (width-mirrored o c.args.width c.requires.width.0) c.in_err-check_window.ensures.answer)
 
@@ -25,7 +25,7 @@ turned g c =
 
 pub apply-requires : goal.apply-requires
 apply-requires g c =
-    let a = (g.T.Tower.tower c.args.tower.now).top in
+    let a = (g.R.Rule.meaning c.args.rule.now) in
     let o = toward c.args.direction a in
     let w = c.args.width in
     let ws = c.args.window.now in
@@ -34,7 +34,7 @@ apply-requires g c =
 
 pub returns : goal.returns
 returns g c =
-    let o = toward c.args.direction (g.T.Tower.tower c.args.tower.now).top in
+    let o = toward c.args.direction (g.R.Rule.meaning c.args.rule.now) in
     let ws = c.args.window.now in
     answer-value c.args.states (option_map mirror_local o) c.args.width ws c.apply.result (width-mirrored o c.args.width c.requires.width.0) c.in_ok-check_window.ensures.answer
     (c.apply.ensures.value ∙ ap (value_of o) (turned g (goal.at.returns g c).After-reverse) ∙ value-mirrored o ws)

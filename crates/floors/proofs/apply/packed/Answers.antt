@@ -5,7 +5,6 @@ use Rattle.rings.specs.Automaton.{toward}
 use Rattle.rings.specs.Packing.{number, unblocks}
 use Rattle.rules.specs.Steps.{value_of, Reads, part}
 use Rattle.rules.specs.Windows.{checked_refused}
-use Rattle.towers.specs.Standing.{top_lawful}
 use Rattle.floors.proofs.Asking.{unpackable, window-inside, window-reads, window-part, next_packed, blocks-value}
 use Rattle.floors.proofs.apply.packed.Given as given
 use Rattle.floors.proofs.apply.packed.Goals as goal
@@ -19,7 +18,7 @@ returns-in_err-check_window g c =
 
 pub unpack-requires : goal.unpack-requires
 unpack-requires g c =
-    let lawful = top_lawful _ (g.met.T.Tower.stands c.args.tower.now) in
+    let lawful = g.met.R.Rule.lawful c.args.rule.now in
     let u = unpackable lawful c.requires c.args.window.now c.in_ok-check_window.ensures.answer in
     (u.0, (c.requires.some, (u.1, omega arith)))
 
@@ -30,7 +29,7 @@ loop-j-init g c = (refl, sym (pow-zero c.args.blocks.states))
 -- the windows of a block end inside the unpacked cells
 ends-inside : (g : given.Over) (c : In-loop-j g) → c.loop-j.j + c.args.blocks.skip + c.args.blocks.width ≤ 1024
 ends-inside g c =
-    let lawful = top_lawful _ (g.met.T.Tower.stands c.args.tower.now) in
+    let lawful = g.met.R.Rule.lawful c.args.rule.now in
     let ws = c.args.window.now in
     let e = c.in_ok-check_window.ensures.answer in
     omega (arith, window-inside lawful c.requires ws e c.loop-j.j c.loop-j-test.true, (unpackable lawful c.requires ws e).1)
@@ -49,9 +48,9 @@ slice_bounds-apply-end g c = omega (arith, ends-inside g (goal.at.slice_bounds-a
 
 pub apply-value-requires : goal.apply-value-requires
 apply-value-requires g c =
-    let x = c.args.tower.now in
-    let a = (g.T.Tower.tower x).top in
-    let lawful = top_lawful _ (g.met.T.Tower.stands x) in
+    let x = c.args.rule.now in
+    let a = g.R.Rule.meaning x in
+    let lawful = g.met.R.Rule.lawful x in
     let ws = c.args.window.now in
     let e = c.in_ok-check_window.ensures.answer in
     let j = c.loop-j.j in
@@ -60,35 +59,35 @@ apply-value-requires g c =
 
 pub overflow_mul-code : goal.overflow_mul-code
 overflow_mul-code g c =
-    let next = next_packed (top_lawful _ (g.met.T.Tower.stands c.args.tower.now)) c.requires c.args.window.now c.in_ok-check_window.ensures.answer c.loop-j.j c.loop-j.code c.loop-j.weight
+    let next = next_packed (g.met.R.Rule.lawful c.args.rule.now) c.requires c.args.window.now c.in_ok-check_window.ensures.answer c.loop-j.j c.loop-j.code c.loop-j.weight
     c.apply-value.result c.unpack.new.cells c.loop-j-test.true c.loop-j.invariant.0 c.loop-j.invariant.1 c.apply-value.ensures.value c.unpack.ensures in
     let small = next.product in
     search rules
 
 pub overflow_add-code : goal.overflow_add-code
 overflow_add-code g c =
-    let next = next_packed (top_lawful _ (g.met.T.Tower.stands c.args.tower.now)) c.requires c.args.window.now c.in_ok-check_window.ensures.answer c.loop-j.j c.loop-j.code c.loop-j.weight
+    let next = next_packed (g.met.R.Rule.lawful c.args.rule.now) c.requires c.args.window.now c.in_ok-check_window.ensures.answer c.loop-j.j c.loop-j.code c.loop-j.weight
     c.apply-value.result c.unpack.new.cells c.loop-j-test.true c.loop-j.invariant.0 c.loop-j.invariant.1 c.apply-value.ensures.value c.unpack.ensures in
     let small = next.sum in
     search rules
 
 pub overflow_mul-weight : goal.overflow_mul-weight
 overflow_mul-weight g c =
-    let next = next_packed (top_lawful _ (g.met.T.Tower.stands c.args.tower.now)) c.requires c.args.window.now c.in_ok-check_window.ensures.answer c.loop-j.j c.loop-j.code c.loop-j.weight
+    let next = next_packed (g.met.R.Rule.lawful c.args.rule.now) c.requires c.args.window.now c.in_ok-check_window.ensures.answer c.loop-j.j c.loop-j.code c.loop-j.weight
     c.apply-value.result c.unpack.new.cells c.loop-j-test.true c.loop-j.invariant.0 c.loop-j.invariant.1 c.apply-value.ensures.value c.unpack.ensures in
     let small = next.power in
     search rules
 
 pub loop-j-preserved : goal.loop-j-preserved
 loop-j-preserved g c =
-    let next = next_packed (top_lawful _ (g.met.T.Tower.stands c.args.tower.now)) c.requires c.args.window.now c.in_ok-check_window.ensures.answer c.loop-j.j c.loop-j.code c.loop-j.weight
+    let next = next_packed (g.met.R.Rule.lawful c.args.rule.now) c.requires c.args.window.now c.in_ok-check_window.ensures.answer c.loop-j.j c.loop-j.code c.loop-j.weight
     c.apply-value.result c.unpack.new.cells c.loop-j-test.true c.loop-j.invariant.0 c.loop-j.invariant.1 c.apply-value.ensures.value c.unpack.ensures in
     (next.next_code, next.next_weight)
 
 pub returns : goal.returns
 returns g c =
     let b = c.args.blocks in
-    let o = toward c.args.direction (g.T.Tower.tower c.args.tower.now).top in
+    let o = toward c.args.direction (g.R.Rule.meaning c.args.rule.now) in
     let ws = c.args.window.now in
     let all : c.loop-j.j ≡ b.block = omega (arith, c.loop-j-test.false) in
     blocks-value o b ws c.loop-j.code c.in_ok-check_window.ensures.answer (c.loop-j.invariant.0 ∙ ap (number b.states (λ i. value_of o (part (unblocks b.states b.block ws) (i + b.skip) b.width))) all)

@@ -7,5 +7,5 @@ use Rattle.floors.proofs.apply.packed.Given as goal
 abbrev pub invariant-loop-j : goal.invariant-loop-j
 invariant-loop-j g l =
     let b = l.blocks in
-    (l.code ≡ number b.states (λ i. value_of (toward l.direction (g.T.Tower.tower l.tower).top) (part (unblocks b.states b.block l.window) (i + b.skip) b.width)) l.j)
+    (l.code ≡ number b.states (λ i. value_of (toward l.direction (g.R.Rule.meaning l.rule)) (part (unblocks b.states b.block l.window) (i + b.skip) b.width)) l.j)
     × (l.weight ≡ b.states ^ l.j)
