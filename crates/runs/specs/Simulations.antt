@@ -23,7 +23,7 @@ usable_room n room_a room_b room_third = cond (nat_lt room_third n) 0 (min room_
 abbrev pub Simulated : {T : Type 0} → Tower → T → List ℕ → List Call → List ℕ → List ℕ → List ℕ → Result (Simulation T) (Unmade T) → List ℕ → List ℕ → List ℕ → Type 0
 Simulated t x c calls a b third (Ok sim) after_a after_b after_third =
     (simulate_fault t c (length a) (length b) (length third) ≡ None)
-    × (sim.run.top.0 ≡ x)
+    × (sim.run.tower ≡ x)
     × SimulatesRun t c calls a b third sim.told sim.refused (state_of sim.run after_a after_b) after_third
     × ExactInverse t c calls third (state_of sim.run after_a after_b) after_third
 Simulated t x c calls a b third (Err e) after_a after_b after_third =

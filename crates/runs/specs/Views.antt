@@ -24,11 +24,11 @@ told_of run = record { cells = run.cells; steps = run.steps; holder = holder run
 -- the refusal with the tower and the buffer as they were.
 abbrev pub Begins : {T : Type 0} → Tower → T → List ℕ → ℕ → List ℕ → Result (Run T) (Unmade T) → List ℕ → Type 0
 Begins t x c room a (Ok run) after_a =
-    (encode_fault t.bottom.states t.block c room ≡ None) × (run.top.0 ≡ x) × (run.cells ≡ length c / t.block) × (run.steps ≡ pos 0) × (after_a ≡ written_over (t.encode c) a)
+    (encode_fault t.bottom.states t.block c room ≡ None) × (run.tower ≡ x) × (run.cells ≡ length c / t.block) × (run.steps ≡ pos 0) × (after_a ≡ written_over (t.encode c) a)
 Begins t x c room a (Err e) after_a = (option_map Refused (encode_fault t.bottom.states t.block c room) ≡ Some e.fault) × (e.tower ≡ x) × (after_a ≡ a)
 
 -- What making a run with the tower x, which means t, comes to: the run, whose buffers show c after no step; or the refusal, with the tower and the buffer A
 -- as they were.
 abbrev pub Makes : {T : Type 0} → Tower → T → List ℕ → List ℕ → List ℕ → Result (Run T) (Unmade T) → List ℕ → Type 0
-Makes t x c a b (Ok run) after_a = (make_fault t c (length a) (length b) ≡ None) × (run.top.0 ≡ x) × (state_of run after_a b ≡ made t c a b) × Shows t c (pos 0) (state_of run after_a b)
+Makes t x c a b (Ok run) after_a = (make_fault t c (length a) (length b) ≡ None) × (run.tower ≡ x) × (state_of run after_a b ≡ made t c a b) × Shows t c (pos 0) (state_of run after_a b)
 Makes t x c a b (Err e) after_a = (make_fault t c (length a) (length b) ≡ Some e.fault) × (e.tower ≡ x) × (after_a ≡ a)

@@ -14,7 +14,7 @@ ghost use Rattle.runs.specs.Views.{state_of, told_of, Begins, Makes};
 use crate::{Holder, Run, RunFault, Told};
 use rings::{Direction, first_stray};
 use rules::{RuleFault, map_ring};
-use towers::{Top, Tower, TowerFault, decode_rotated, encode};
+use towers::{Tower, TowerFault, decode_rotated, encode};
 
 const MAX_COUNT: u32 = 65_536;
 
@@ -39,20 +39,20 @@ impl<T: Tower> Run<T> {
 
     // This many steps of the top.
     pub fn advance(&mut self, count: u32, a: &mut [u32], b: &mut [u32]) -> Result<(), RunFault>
-        ensures same { self.new.top ≡ self.old.top }
-        ensures answer { result ≡ outcome (move_fault Forward (T.Tower.tower self.old.top.0).top count (state_of self.old a.old b.old)) }
-        ensures state { state_of self.new a.new b.new ≡ tried Forward (T.Tower.tower self.old.top.0).top count (state_of self.old a.old b.old) }
-        ensures law { MoveLaw (T.Tower.tower self.old.top.0) (Advance count) (state_of self.old a.old b.old) (state_of self.new a.new b.new) result }
+        ensures same { self.new.tower ≡ self.old.tower }
+        ensures answer { result ≡ outcome (move_fault Forward (T.Tower.tower self.old.tower).top count (state_of self.old a.old b.old)) }
+        ensures state { state_of self.new a.new b.new ≡ tried Forward (T.Tower.tower self.old.tower).top count (state_of self.old a.old b.old) }
+        ensures law { MoveLaw (T.Tower.tower self.old.tower) (Advance count) (state_of self.old a.old b.old) (state_of self.new a.new b.new) result }
     {
         travel(self, Direction::Forward, count, a, b)
     }
 
     // This many steps of the top's inverse.
     pub fn back(&mut self, count: u32, a: &mut [u32], b: &mut [u32]) -> Result<(), RunFault>
-        ensures same { self.new.top ≡ self.old.top }
-        ensures answer { result ≡ outcome (move_fault Backward (T.Tower.tower self.old.top.0).top count (state_of self.old a.old b.old)) }
-        ensures state { state_of self.new a.new b.new ≡ tried Backward (T.Tower.tower self.old.top.0).top count (state_of self.old a.old b.old) }
-        ensures law { MoveLaw (T.Tower.tower self.old.top.0) (Back count) (state_of self.old a.old b.old) (state_of self.new a.new b.new) result }
+        ensures same { self.new.tower ≡ self.old.tower }
+        ensures answer { result ≡ outcome (move_fault Backward (T.Tower.tower self.old.tower).top count (state_of self.old a.old b.old)) }
+        ensures state { state_of self.new a.new b.new ≡ tried Backward (T.Tower.tower self.old.tower).top count (state_of self.old a.old b.old) }
+        ensures law { MoveLaw (T.Tower.tower self.old.tower) (Back count) (state_of self.old a.old b.old) (state_of self.new a.new b.new) result }
     {
         travel(self, Direction::Backward, count, a, b)
     }
@@ -60,7 +60,7 @@ impl<T: Tower> Run<T> {
     // The ring that the run holds, where it lies.
     pub fn present<'b>(&self, a: &'b [u32], b: &'b [u32]) -> Result<&'b [u32], RunFault>
         ensures answer { MatchResult result (λ ring. (present_fault (state_of self.now a.now b.now) ≡ None) × (ring.now ≡ held (state_of self.now a.now b.now))) (λ e. present_fault (state_of self.now a.now b.now) ≡ Some e) }
-        ensures law { (c : List ℕ) (k : ℤ) → Shows (T.Tower.tower self.now.top.0) c k (state_of self.now a.now b.now) → MatchResult result (λ ring. ring.now ≡ after (T.Tower.tower self.now.top.0).top k ((T.Tower.tower self.now.top.0).encode c)) (λ e. ⊥) }
+        ensures law { (c : List ℕ) (k : ℤ) → Shows (T.Tower.tower self.now.tower) c k (state_of self.now a.now b.now) → MatchResult result (λ ring. ring.now ≡ after (T.Tower.tower self.now.tower).top k ((T.Tower.tower self.now.tower).encode c)) (λ e. ⊥) }
     {
         let cells = self.cells;
         if a.len() < cells || b.len() < cells {
@@ -75,24 +75,24 @@ impl<T: Tower> Run<T> {
 
     // Writes the bottom ring that the run has reached, into the first cells of a third buffer.
     pub fn read(&self, a: &[u32], b: &[u32], third: &mut [u32]) -> Result<(), RunFault>
-        ensures answer { result ≡ outcome (read_fault (T.Tower.tower self.now.top.0) (state_of self.now a.now b.now) (length third.old)) }
-        ensures buffer { third.new ≡ read_buffer (T.Tower.tower self.now.top.0) (state_of self.now a.now b.now) third.old }
-        ensures law { ReadLaw (T.Tower.tower self.now.top.0) (state_of self.now a.now b.now) third.old third.new result }
+        ensures answer { result ≡ outcome (read_fault (T.Tower.tower self.now.tower) (state_of self.now a.now b.now) (length third.old)) }
+        ensures buffer { third.new ≡ read_buffer (T.Tower.tower self.now.tower) (state_of self.now a.now b.now) third.old }
+        ensures law { ReadLaw (T.Tower.tower self.now.tower) (state_of self.now a.now b.now) third.old third.new result }
     {
         let ring = self.present(a, b)?;
-        let numbers = self.top.0.numbers();
+        let numbers = self.tower.numbers();
         if third.len() / (numbers.block as usize) < self.cells {
             return Err(RunFault::Tower(TowerFault::Rule(RuleFault::ShortBuffer)));
         }
         let rotation = turn_back(numbers.drift, self.steps);
-        decode_rotated(&self.top.0, ring, rotation, third)?;
+        decode_rotated(&self.tower, ring, rotation, third)?;
         Ok(())
     }
 
     // How many cells the ring has, how many steps the run has gone, and which buffer holds the ring.
     pub fn tell(&self) -> Told
         ensures answer { result ≡ told_of self.now }
-        ensures law { (c : List ℕ) (k : ℤ) (a b : List ℕ) → Shows (T.Tower.tower self.now.top.0) c k (state_of self.now a b) → result.steps ≡ k }
+        ensures law { (c : List ℕ) (k : ℤ) (a b : List ℕ) → Shows (T.Tower.tower self.now.tower) c k (state_of self.now a b) → result.steps ≡ k }
     {
         Told {
             cells: self.cells,
@@ -124,7 +124,7 @@ pub(crate) fn begin<T: Tower>(
         Ok(()) => {
             let cells = ring.len() / tower.numbers().block as usize;
             Ok(Run {
-                top: Top(tower),
+                tower,
                 cells,
                 steps: 0,
             })
@@ -190,9 +190,9 @@ fn refusal<T: Tower>(
     a: &[u32],
     b: &[u32],
 ) -> Option<RunFault>
-    ensures { result ≡ move_fault direction (T.Tower.tower run.now.top.0).top count (state_of run.now a.now b.now) }
+    ensures { result ≡ move_fault direction (T.Tower.tower run.now.tower).top count (state_of run.now a.now b.now) }
 {
-    if !can_go(&run.top.0, direction) {
+    if !can_go(&run.tower, direction) {
         return Some(RunFault::Tower(TowerFault::Rule(RuleFault::NoInverse)));
     }
     let ring = match run.present(a, b) {
@@ -202,31 +202,31 @@ fn refusal<T: Tower>(
     if is_too_far(direction, run.steps, count) {
         return Some(RunFault::TooFar);
     }
-    stray_refusal(ring, run.top.0.numbers().states)
+    stray_refusal(ring, run.tower.numbers().states)
 }
 
 // One step, from the ring in the first cells of one buffer into the first cells of the other.
-fn step<T: Tower>(top: &Top<T>, direction: Direction, cells: usize, from: &[u32], to: &mut [u32])
+fn step<T: Tower>(tower: &T, direction: Direction, cells: usize, from: &[u32], to: &mut [u32])
     requires sizes { (1 ≤ cells) × ((cells ≤ 2048) × ((cells ≤ length from.now) × (cells ≤ length to.old))) }
-    requires steps { is_some (toward direction (T.Tower.tower top.now.0).top) ≡ true }
-    requires codes { Codes (T.Tower.tower top.now.0).top.states (take cells from.now) }
-    ensures { to.new ≡ written_over (after (T.Tower.tower top.now.0).top (toward_steps direction 1) (take cells from.now)) to.old }
+    requires steps { is_some (toward direction (T.Tower.tower tower.now).top) ≡ true }
+    requires codes { Codes (T.Tower.tower tower.now).top.states (take cells from.now) }
+    ensures { to.new ≡ written_over (after (T.Tower.tower tower.now).top (toward_steps direction 1) (take cells from.now)) to.old }
 {
-    let _ = map_ring(top, direction, &from[0..cells], to);
+    let _ = map_ring(tower, direction, &from[0..cells], to);
 }
 
 // Steps from the buffer that holds the ring into the other, and back again.
 fn go<T: Tower>(run: &Run<T>, direction: Direction, count: u32, a: &mut [u32], b: &mut [u32])
-    requires { move_fault direction (T.Tower.tower run.now.top.0).top count (state_of run.now a.old b.old) ≡ None }
-    ensures a { a.new ≡ (moved direction (T.Tower.tower run.now.top.0).top count (state_of run.now a.old b.old)).a }
-    ensures b { b.new ≡ (moved direction (T.Tower.tower run.now.top.0).top count (state_of run.now a.old b.old)).b }
+    requires { move_fault direction (T.Tower.tower run.now.tower).top count (state_of run.now a.old b.old) ≡ None }
+    ensures a { a.new ≡ (moved direction (T.Tower.tower run.now.tower).top count (state_of run.now a.old b.old)).a }
+    ensures b { b.new ≡ (moved direction (T.Tower.tower run.now.tower).top count (state_of run.now a.old b.old)).b }
 {
     let mut in_a = is_even(run.steps);
     for _i in 0..count {
         if in_a {
-            step(&run.top, direction, run.cells, a, b);
+            step(&run.tower, direction, run.cells, a, b);
         } else {
-            step(&run.top, direction, run.cells, b, a);
+            step(&run.tower, direction, run.cells, b, a);
         }
         in_a = !in_a;
     }
@@ -240,9 +240,9 @@ fn travel<T: Tower>(
     a: &mut [u32],
     b: &mut [u32],
 ) -> Result<(), RunFault>
-    ensures same { run.new.top ≡ run.old.top }
-    ensures answer { result ≡ outcome (move_fault direction (T.Tower.tower run.old.top.0).top count (state_of run.old a.old b.old)) }
-    ensures state { state_of run.new a.new b.new ≡ tried direction (T.Tower.tower run.old.top.0).top count (state_of run.old a.old b.old) }
+    ensures same { run.new.tower ≡ run.old.tower }
+    ensures answer { result ≡ outcome (move_fault direction (T.Tower.tower run.old.tower).top count (state_of run.old a.old b.old)) }
+    ensures state { state_of run.new a.new b.new ≡ tried direction (T.Tower.tower run.old.tower).top count (state_of run.old a.old b.old) }
 {
     if let Some(fault) = refusal(run, direction, count, a, b) {
         return Err(fault);

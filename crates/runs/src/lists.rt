@@ -17,11 +17,11 @@ impl<T: Tower> Run<T> {
         b: &mut [u32],
         third: &mut [u32],
     ) -> Option<RefusedCall>
-        ensures same { self.new.top ≡ self.old.top }
-        ensures answer { result ≡ first_refused (T.Tower.tower self.old.top.0) 0 calls.now (state_of self.old a.old b.old) (length third.old) }
-        ensures state { state_of self.new a.new b.new ≡ performed (T.Tower.tower self.old.top.0) calls.now (state_of self.old a.old b.old) }
-        ensures third { third.new ≡ performed_third (T.Tower.tower self.old.top.0) calls.now (state_of self.old a.old b.old) third.old }
-        ensures law { PerformLaw (T.Tower.tower self.old.top.0) calls.now (state_of self.old a.old b.old) (state_of self.new a.new b.new) (length third.old) result }
+        ensures same { self.new.tower ≡ self.old.tower }
+        ensures answer { result ≡ first_refused (T.Tower.tower self.old.tower) 0 calls.now (state_of self.old a.old b.old) (length third.old) }
+        ensures state { state_of self.new a.new b.new ≡ performed (T.Tower.tower self.old.tower) calls.now (state_of self.old a.old b.old) }
+        ensures third { third.new ≡ performed_third (T.Tower.tower self.old.tower) calls.now (state_of self.old a.old b.old) third.old }
+        ensures law { PerformLaw (T.Tower.tower self.old.tower) calls.now (state_of self.old a.old b.old) (state_of self.new a.new b.new) (length third.old) result }
     {
         let mut refused = None;
         for (index, call) in calls.iter().enumerate() {
@@ -40,10 +40,10 @@ fn perform_call<T: Tower>(
     b: &mut [u32],
     third: &mut [u32],
 ) -> Option<RunFault>
-    ensures same { run.new.top ≡ run.old.top }
-    ensures answer { result ≡ call_fault (T.Tower.tower run.old.top.0) call (state_of run.old a.old b.old) (length third.old) }
-    ensures state { state_of run.new a.new b.new ≡ called (T.Tower.tower run.old.top.0) call (state_of run.old a.old b.old) }
-    ensures third { third.new ≡ called_third (T.Tower.tower run.old.top.0) call (state_of run.old a.old b.old) third.old }
+    ensures same { run.new.tower ≡ run.old.tower }
+    ensures answer { result ≡ call_fault (T.Tower.tower run.old.tower) call (state_of run.old a.old b.old) (length third.old) }
+    ensures state { state_of run.new a.new b.new ≡ called (T.Tower.tower run.old.tower) call (state_of run.old a.old b.old) }
+    ensures third { third.new ≡ called_third (T.Tower.tower run.old.tower) call (state_of run.old a.old b.old) third.old }
 {
     match call {
         Call::Advance(count) => run.advance(count, a, b).err(),

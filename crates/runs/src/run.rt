@@ -1,11 +1,9 @@
 // A run of a tower: the tower, how many cells its ring has, and how many steps it has gone.
 ghost use Rattle.std.specs.Prelude.{◌≤◌, unsigned_abs};
 
-use towers::Top;
-
 #[derive(Drop)]
 pub struct Run<T> {
-    pub(crate) top: Top<T>,
+    pub(crate) tower: T,
     pub(crate) cells: usize,
     pub(crate) steps: i32,
     ghost some: { 1 ≤ cells },

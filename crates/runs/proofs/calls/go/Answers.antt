@@ -18,10 +18,10 @@ loop-i-init g c =
 
 pub step-requires : goal.step-requires
 step-requires g c =
-    let t = g.T.Tower.tower c.args.run.now.top.0 in
+    let t = g.T.Tower.tower c.args.run.now.tower in
     let s = state_of c.args.run.now c.args.a.now c.args.b.now in
     let m = movable c.args.direction t.top c.args.count s c.requires in
-    let sound = (g.met.T.Tower.stands c.args.run.now.top.0).laws.top in
+    let sound = (g.met.T.Tower.stands c.args.run.now.tower).laws.top in
     record {
       sizes = (c.args.run.now.some, (c.args.run.now.few, (omega (arith, m.room.a, c.loop-i.auto.a), omega (arith, m.room.b, c.loop-i.auto.b))));
       steps = m.goes;
@@ -30,10 +30,10 @@ step-requires g c =
 
 pub step-requires-else-in_a : goal.step-requires-else-in_a
 step-requires-else-in_a g c =
-    let t = g.T.Tower.tower c.args.run.now.top.0 in
+    let t = g.T.Tower.tower c.args.run.now.tower in
     let s = state_of c.args.run.now c.args.a.now c.args.b.now in
     let m = movable c.args.direction t.top c.args.count s c.requires in
-    let sound = (g.met.T.Tower.stands c.args.run.now.top.0).laws.top in
+    let sound = (g.met.T.Tower.stands c.args.run.now.tower).laws.top in
     record {
       sizes = (c.args.run.now.some, (c.args.run.now.few, (omega (arith, m.room.b, c.loop-i.auto.b), omega (arith, m.room.a, c.loop-i.auto.a))));
       steps = m.goes;
@@ -42,11 +42,11 @@ step-requires-else-in_a g c =
 
 pub loop-i-preserved : goal.loop-i-preserved
 loop-i-preserved g c =
-    let t = g.T.Tower.tower c.args.run.now.top.0 in
+    let t = g.T.Tower.tower c.args.run.now.tower in
     let d = c.args.direction in
     let s = state_of c.args.run.now c.args.a.now c.args.b.now in
     let m = movable d t.top c.args.count s c.requires in
-    let sound = (g.met.T.Tower.stands c.args.run.now.top.0).laws.top in
+    let sound = (g.met.T.Tower.stands c.args.run.now.tower).laws.top in
     let i = c.loop-i._i in
     let one : suc i ≡ i + 1 = omega arith in
     let even : not c.loop-i.in_a ≡ is_even (s.steps +ℤ toward_steps d (i + 1)) =

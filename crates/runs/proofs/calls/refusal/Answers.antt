@@ -18,7 +18,7 @@ returns-then-is_too_far g c =
 
 pub returns : goal.returns
 returns g c =
-    let t = g.T.Tower.tower c.args.run.now.top.0 in
+    let t = g.T.Tower.tower c.args.run.now.tower in
     let s = state_of c.args.run.now c.args.a.now c.args.b.now in
     let f : SFits w32 c.args.run.now.steps = search rules in
     let near : is_too_far c.args.direction c.args.run.now.steps c.args.count ≡ false =

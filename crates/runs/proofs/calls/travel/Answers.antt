@@ -10,7 +10,7 @@ use Rattle.runs.proofs.calls.travel.Goals as goal
 
 pub returns : goal.returns
 returns g c =
-    let a = (g.T.Tower.tower c.args.run.now.top.0).top in
+    let a = (g.T.Tower.tower c.args.run.now.tower).top in
     let d = c.args.direction in
     let n = c.args.count in
     let s = state_of c.args.run.now c.args.a.now c.args.b.now in

@@ -45,11 +45,11 @@ returns g c =
     let begun = c.in_ok-run.ensures in
     let run = c.in_ok-run.run' in
     let unrefused : encode_fault t.bottom.states t.block ring room ≡ None = ap (encode_fault t.bottom.states t.block ring) (sym c.usable_room-room.ensures) ∙ begun.0 in
-    let same : g.T.Tower.tower run.top.0 ≡ t = ap g.T.Tower.tower begun.1 in
+    let same : g.T.Tower.tower run.tower ≡ t = ap g.T.Tower.tower begun.1 in
     let first = state_of run c.begin.new.a b in
     let s = state_of c.perform-refused.new.self c.perform-refused.new.a c.perform-refused.new.b in
     let top = c.perform-refused.ensures.same in
-    let later : g.T.Tower.tower c.perform-refused.new.self.top.0 ≡ t = ap (λ y. g.T.Tower.tower y.0) top ∙ same in
+    let later : g.T.Tower.tower c.perform-refused.new.self.tower ≡ t = ap g.T.Tower.tower top ∙ same in
     let is_made : first ≡ made t ring a b = made_is t ring a b run.cells run.steps c.begin.new.a begun.2 begun.3 begun.4 in
     let fits = usable_le (length ring) (length a) (length b) (length third) in
     let cells : 1 ≤ room = omega (arith, (fitting-made t ring a room room fits.0 refl standing unrefused).some, cells_room t ring a room room fits.0 refl standing unrefused) in
@@ -61,7 +61,7 @@ returns g c =
     record {
       answer = (
         fault,
-        ap (λ y. y.0) top ∙ begun.1,
+        top ∙ begun.1,
         simulates_run t standing ring calls a b third room fits.0 fits.1 wide unrefused first s is_made c.tell-told.result c.perform-refused.result c.perform-refused.new.third c.read.new.third c.read.result performs then_third c.perform-refused.auto.third reads c.tell-told.ensures.answer,
         exact_inverse t standing ring calls a b third room fits.0 fits.1 wide unrefused first s is_made c.tell-told.result c.perform-refused.result c.perform-refused.new.third c.read.new.third c.read.result performs then_third c.perform-refused.auto.third reads c.tell-told.ensures.answer,
       );

@@ -5,9 +5,9 @@ use Rattle.runs.proofs.run.Run.advance.Goals as goal
 
 pub returns : goal.returns
 returns g c =
-    let t = g.T.Tower.tower c.args.self.now.top.0 in
+    let t = g.T.Tower.tower c.args.self.now.tower in
     let s = state_of c.args.self.now c.args.a.now c.args.b.now in
-    let st = (g.met.T.Tower.stands c.args.self.now.top.0).laws in
+    let st = (g.met.T.Tower.stands c.args.self.now.tower).laws in
     record {
       same = c.travel.ensures.same;
       answer = c.travel.ensures.answer;

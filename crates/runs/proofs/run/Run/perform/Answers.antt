@@ -7,9 +7,9 @@ use Rattle.runs.proofs.run.Run.perform.Goals as goal
 
 pub loop-index-preserved : goal.loop-index-preserved
 loop-index-preserved g c =
-    let t = g.T.Tower.tower c.args.self.now.top.0 in
-    let u = g.T.Tower.tower c.loop-index.self.top.0 in
-    let same : u ≡ t = ap (λ x. g.T.Tower.tower x.0) c.loop-index.invariant.0 in
+    let t = g.T.Tower.tower c.args.self.now.tower in
+    let u = g.T.Tower.tower c.loop-index.self.tower in
+    let same : u ≡ t = ap g.T.Tower.tower c.loop-index.invariant.0 in
     let s = state_of c.loop-index.self c.loop-index.a c.loop-index.b in
     let after = state_of c.perform_call-fault.new.run c.perform_call-fault.new.a c.perform_call-fault.new.b in
     let calls = c.args.calls.now in
@@ -25,7 +25,7 @@ loop-index-preserved g c =
 
 pub returns : goal.returns
 returns g c =
-    let t = g.T.Tower.tower c.args.self.now.top.0 in
+    let t = g.T.Tower.tower c.args.self.now.tower in
     let s = state_of c.args.self.now c.args.a.now c.args.b.now in
     let after = state_of c.loop-index.self c.loop-index.a c.loop-index.b in
     let calls = c.args.calls.now in
@@ -38,5 +38,5 @@ returns g c =
       answer = answer;
       state = state;
       third = sym (performed_third_end t calls i h after c.loop-index.third) ∙ c.loop-index.invariant.3;
-      law = perform_law t (g.met.T.Tower.stands c.args.self.now.top.0).laws calls s after _ _ answer state;
+      law = perform_law t (g.met.T.Tower.stands c.args.self.now.tower).laws calls s after _ _ answer state;
     }
