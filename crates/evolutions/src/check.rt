@@ -122,7 +122,13 @@ pub(crate) fn check_rows(heap: Global, published: &Rows) -> anyhow::Result<Optio
 // Whether the last ring is as published.
 pub(crate) fn check_run(heap: Global, run: &Run) -> anyhow::Result<Option<Difference>> {
     let first = cells(heap, run.first)?;
-    let last = evolve(heap, &Table::elementary(run.rule), Direction::Forward, &first, run.steps)?;
+    let last = evolve(
+        heap,
+        &Table::elementary(run.rule),
+        Direction::Forward,
+        &first,
+        run.steps,
+    )?;
     let found = text(heap, &last)?;
     if found.as_str() == run.last {
         return Ok(None);

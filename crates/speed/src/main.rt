@@ -18,9 +18,10 @@ fn ones_after(
         map_ring(rule, Direction::Forward, even, odd)?;
         map_ring(rule, Direction::Forward, odd, even)?;
     }
-    Ok(even
-        .iter()
-        .fold(0u32, |ones, code| ones.saturating_add(*code)))
+    Ok(
+        even.iter()
+            .fold(0u32, |ones, code| ones.saturating_add(*code)),
+    )
 }
 
 fn run(rt: &HostRuntime) -> anyhow::Result<()> {

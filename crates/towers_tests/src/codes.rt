@@ -61,7 +61,10 @@ fn a_refused_encoding_leaves_the_buffer(rt: HostRuntime) -> Result<(), Fail> {
     let floor = Floor::over(Ground::over(Table::elementary(110)), Action::Pack(3));
     let mut buffer = [9; 1];
     assert_eq!(rt; refusal(encode(&floor, &[], &mut buffer)), Some((1, 0)));
-    assert_eq!(rt; refusal(encode(&floor, &[0, 2, 0, 0], &mut buffer)), Some((3, 0)));
+    assert_eq!(rt;
+        refusal(encode(&floor, &[0, 2, 0, 0], &mut buffer)),
+        Some((3, 0))
+    );
     let stray = encode(&floor, &[0, 2, 0, 0, 0, 0], &mut buffer);
     assert_eq!(rt; refusal(stray), Some((4, 1)));
     let short = encode(&floor, &[0, 1, 0, 0, 0, 0], &mut buffer);
@@ -92,10 +95,7 @@ fn a_top_cell_steps_by_its_window(rt: HostRuntime) {
     assert_eq!(rt; floor.next(&[0, 1, 0]), Ok(6));
     assert_eq!(rt; floor.previous(&[0, 1, 0]), Ok(2));
     assert_eq!(rt; floor.next(&[0, 1]), Err(RuleFault::WrongLength));
-    assert_eq!(rt;
-        floor.previous(&[0, 1, 16]),
-        Err(RuleFault::StrayCode(2))
-    );
+    assert_eq!(rt; floor.previous(&[0, 1, 16]), Err(RuleFault::StrayCode(2)));
 }
 
 #[test]

@@ -26,7 +26,10 @@ pub(crate) fn climb<T: Tower + Drop, R: Rule>(
     println!(rt; "  encoded as top ring: {}", Cells(run.present(&a, &b)?))?;
     for k in 1..=count {
         run.advance(1, &mut a, &mut b)?;
-        println!(rt; "  top ring after step {k}: {}", Cells(run.present(&a, &b)?))?;
+        println!(rt;
+            "  top ring after step {k}: {}",
+            Cells(run.present(&a, &b)?)
+        )?;
         run.read(&a, &b, &mut reading)?;
         println!(rt; "    decoded and turned back: {}", Cells(&reading))?;
         let steps = (numbers.steps as usize).saturating_mul(usize::from(k));

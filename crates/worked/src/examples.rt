@@ -100,8 +100,9 @@ fn reduce_110(rt: &HostRuntime, totals: &mut Totals) -> anyhow::Result<()> {
     let mut a = [0; 4];
     let mut b = [0; 4];
     let mut reading = [0; 4];
-    let mut run =
-        Run::make(reduced_110(), &[0, 0, 0, 1], &mut a, &b).map_err(|refused| refused.fault)?;
+    let mut run = Run::make(reduced_110(), &[0, 0, 0, 1], &mut a, &b).map_err(
+        |refused| refused.fault,
+    )?;
     let code = run.present(&a, &b)?;
     totals.compare(rt, "rule 110 reduced, 0 0 0 1 encoded", code, &[0, 2])?;
     run.advance(1, &mut a, &mut b)?;

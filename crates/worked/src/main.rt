@@ -21,14 +21,7 @@ fn run(rt: &HostRuntime) -> anyhow::Result<()> {
         "A step of a tower's top does T steps of the bottom rule, on an encoded ring, and turns the ring by S cells."
     )?;
     println!(rt; "Rule 110 reduced")?;
-    climb(
-        rt,
-        &mut totals,
-        reduced_110(),
-        &rule,
-        &[0, 0, 0, 1],
-        1,
-    )?;
+    climb(rt, &mut totals, reduced_110(), &rule, &[0, 0, 0, 1], 1)?;
     println!(rt; "Rule 110 with four floors: pack 2, mirror, shift 3, iterate 4")?;
     climb(
         rt,
