@@ -3,7 +3,7 @@ ghost use Rattle.std.specs.Prelude.{◌≡◌, ◌*◌, ◌^◌, ◌<◌, ◌≤
 ghost use Rattle.rings.specs.Line.{tabulate};
 ghost use Rattle.rings.specs.Local.{span};
 ghost use Rattle.rings.specs.Ring.{Codes, first_stray};
-ghost use Rattle.rules.specs.Tables.{entry_index, table, table_fits, table_fault, stored, stored_table};
+ghost use Rattle.rules.specs.Tables.{entry_index, table, interval_fits, table_fits, table_fault, stored, stored_table};
 ghost use Rattle.rules.specs.Elementary.{bit, elementary, WolframNumbered};
 ghost use Rattle.rules.specs.Kinds.{table_kind};
 ghost use Rattle.rules.specs.Windows.{Readable};
@@ -107,17 +107,17 @@ fn entry_count(shape: Shape) -> Option<u32>
     ensures { result ≡ (if table_fits shape.states shape.lo shape.hi then Some (shape.states ^ span shape.lo shape.hi) else None) }
 {
     let Shape { states, lo, hi } = shape;
-    let width = interval_width(lo, hi);
-    if states < 1
-        || states > MAX_TABLE_STATES
-        || lo < MIN_END
-        || lo > hi
-        || hi > MAX_END
-        || width > MAX_WIDTH
-    {
+    if !(1..=MAX_TABLE_STATES).contains(&states) || !interval_fits(lo, hi) {
         return None;
     }
-    power_within(states, width as u32, MAX_ENTRIES as u32)
+    power_within(states, interval_width(lo, hi) as u32, MAX_ENTRIES as u32)
+}
+
+// Whether an interval is that of a rule.
+fn interval_fits(lo: i32, hi: i32) -> bool
+    ensures { result ≡ interval_fits lo hi }
+{
+    lo >= MIN_END && lo <= hi && hi <= MAX_END && interval_width(lo, hi) <= MAX_WIDTH
 }
 
 // The entries at the front of a store.
