@@ -1,4 +1,3 @@
-pub mod Arithmetic
 pub mod Refusals
 pub mod Steps
 pub mod Shown

@@ -1,15 +1,15 @@
 -- Lemmas on reading a run.
-use Rattle.std.proofs.Common.{◌≡◌, ℕ, ◌*◌, ◌/◌, ◌<◌, ◌≤◌, false, cond, ltb, ◌≢◌, List, length, ℤ, ◌*ℤ◌, neg_ℤ, Some, None, Ok, Err, Option, Result, sym, refl, ap, ◌∙◌, ap₂, arith}
-use Rattle.std.proofs.lemmas.Bool.{le-ltb, ne_eqb}
+use Rattle.std.proofs.Common.{◌≡◌, ℕ, ◌*◌, ◌/◌, ◌<◌, ◌≤◌, false, cond, ltb, ◌≢◌, List, length, ℤ, ◌*ℤ◌, neg_ℤ, Some, None, Err, Option, Result, sym, refl, ap, ◌∙◌, ap₂, arith}
+use Rattle.std.proofs.lemmas.Bool.{lt-ltb, le-ltb, ne_eqb}
 use Rattle.std.specs.Option.{option_map}
 use Rattle.rings.specs.Ring.{first_stray, rotate}
+use Rattle.rings.specs.Refusals.{outcome, unless_refused}
 use Rattle.rules.specs.declared.fault.RuleFault.TheVariants.{ShortBuffer}
 use Rattle.rules.specs.Maps.{written_over}
-use Rattle.runs.specs.Outcomes.{outcome, unless_refused}
 use Rattle.towers.specs.declared.fault.TowerFault.{TowerFault}
 use Rattle.towers.specs.declared.fault.TowerFault.TheVariants.{Rule}
 use Rattle.towers.specs.Towers.{Tower, Stands}
-use Rattle.towers.specs.Encodings.{stray_or_short, rotated_fault, rotated_answer, rotated_buffer}
+use Rattle.towers.specs.Encodings.{stray_or_short, rotated_fault, rotated_buffer}
 use Rattle.towers.proofs.Calls.{more_than}
 use Rattle.towers.proofs.Steps.{rotate-decode-after}
 use Rattle.runs.specs.declared.Call.TheVariants.{Read}
@@ -18,9 +18,8 @@ use Rattle.runs.specs.declared.fault.RunFault.TheVariants.{Tower as Refused}
 use Rattle.runs.specs.States.{State, held}
 use Rattle.runs.specs.Calls.{rule_fault, refused_if, stray_fault, present_fault, read_fault, reading, read_buffer}
 use Rattle.runs.specs.Laws.{Shows, bottom_after, ReadLaw}
-use Rattle.runs.proofs.Refusals.{roomy, short_none, read_fault-short, read_fault_room}
+use Rattle.runs.proofs.Refusals.{roomy, not_short}
 use Rattle.runs.proofs.Steps.{length-held}
-use Rattle.runs.proofs.Making.{err_some, ok_none}
 use Rattle.runs.proofs.Shown.{call_fault-shown}
 
 -- what is read of a run that shows c is what the bottom reaches
@@ -55,27 +54,28 @@ only_stray : (o : Option ℕ) (cells room : ℕ) → ltb room cells ≡ false �
 only_stray None cells room e = ap (λ x. option_map Refused (cond x (Some (Rule ShortBuffer)) None)) e
 only_stray (Some i) cells room e = refl
 
-module _ (t : Tower) (st : Stands t) (s : State) (third : List ℕ) (presents : present_fault s ≡ None) where
-  pub read_short : length third / t.block < s.cells → ReadDone t s third third (Err (rule_fault ShortBuffer))
-  read_short h = read_done t st s third third (Err (rule_fault ShortBuffer)) (Some (rule_fault ShortBuffer)) (read_fault-short t s (length third) st.block presents h) refl refl
+module _ (t : Tower) (st : Stands t) (s : State) (third : List ℕ) (presents : present_fault s ≡ None) (block : ℕ) (is_block : block ≡ t.block) where
+  more : ltb (length third) (s.cells * t.block) ≡ ltb (length third / block) s.cells
+  more = more_than (length third) s.cells t.block st.block ∙ ap (λ m. ltb (length third / m) s.cells) (sym is_block)
 
-  module _ (some : 1 ≤ s.cells) (room : s.cells ≤ length third / t.block) where
-    -- the held ring is refused by decoding exactly for its first stray code
-    rotated_is_read : option_map Refused (rotated_fault t.top.states t.block (held s) (length third)) ≡ read_fault t s (length third)
-    rotated_is_read =
-        let len : length (held s) ≡ s.cells = length-held s (roomy s (short_none s presents)) in
-        let ne : length (held s) ≢ 0 = omega (arith, len) in
-        let wide : ltb (length third) (length (held s) * t.block) ≡ false = ap (λ n. ltb (length third) (n * t.block)) len ∙ more_than (length third) s.cells t.block st.block ∙ le-ltb (length third / t.block) s.cells room in
-        rw (ne_eqb (length (held s)) 0 ne) (only_stray (first_stray t.top.states (held s)) (length (held s) * t.block) (length third) wide) ∙ sym (read_fault_room t s (length third) st.block presents room)
+  pub read_short : length third / block < s.cells → (r : Result (Unit {0}) RunFault) → r ≡ Err (rule_fault ShortBuffer) → ReadDone t s third third r
+  read_short h r answer =
+      let fault : read_fault t s (length third) ≡ Some (rule_fault ShortBuffer) = rw (not_short s (roomy s presents)) (rw (more ∙ lt-ltb (length third / block) s.cells h)) in
+      read_done t st s third third r (Some (rule_fault ShortBuffer)) fault answer refl
 
-    pub read-stray : (f : TowerFault) (z : ℤ) (after_third : List ℕ) (r : Result (Unit {0}) RunFault) → r ≡ Err (Refused f) → Err f ≡ rotated_answer t (held s) third → after_third ≡ rotated_buffer t (held s) z third → ReadDone t s third after_third r
-    read-stray f z after_third r er e buffer =
-        let some_fault = err_some (rotated_fault t.top.states t.block (held s) (length third)) f e in
-        read_done t st s third after_third r (Some (Refused f)) (sym rotated_is_read ∙ ap (option_map Refused) some_fault) er
-        (buffer ∙ ap (λ o. unless_refused o (written_over (rotate z (t.decode (held s))) third) third) some_fault)
-
-    pub read_whole : (z : ℤ) (after_third : List ℕ) → z ≡ neg_ℤ (t.drift *ℤ s.steps) → Ok tt ≡ rotated_answer t (held s) third → after_third ≡ rotated_buffer t (held s) z third → ReadDone t s third after_third (Ok tt)
-    read_whole z after_third ez e buffer =
-        let none = ok_none (rotated_fault t.top.states t.block (held s) (length third)) e in
-        read_done t st s third after_third (Ok tt) None (sym rotated_is_read ∙ ap (option_map Refused) none) refl
-        (buffer ∙ ap (λ f. unless_refused f (written_over (rotate z (t.decode (held s))) third) third) none ∙ ap (λ y. written_over (rotate y (t.decode (held s))) third) ez)
+  -- what decoding the held ring answers, the reading answers
+  pub read_decoded : (ring : List ℕ) → ring ≡ held s → 1 ≤ s.cells → s.cells ≤ length third / block → (o : Option TowerFault) → o ≡ rotated_fault t.top.states t.block ring (length third)
+      → (z : ℤ) → z ≡ neg_ℤ (t.drift *ℤ s.steps) → (after_third : List ℕ) → after_third ≡ rotated_buffer t ring z third
+      → (r : Result (Unit {0}) RunFault) → r ≡ outcome (option_map Refused o) → ReadDone t s third after_third r
+  read_decoded ring held-ring some room o fault z turn after_third buffer r answer =
+      let fits : ltb (length third) (s.cells * t.block) ≡ false = more ∙ le-ltb (length third / block) s.cells room in
+      let size : length ring ≡ s.cells = ap length held-ring ∙ length-held s (roomy s presents) in
+      let ne : length ring ≢ 0 = omega (arith, size) in
+      let read : read_fault t s (length third) ≡ stray_fault (first_stray t.top.states (held s)) = rw (not_short s (roomy s presents)) (rw fits) in
+      let decoded : option_map Refused (rotated_fault t.top.states t.block ring (length third)) ≡ stray_fault (first_stray t.top.states ring) =
+      rw (ne_eqb (length ring) 0 ne) (only_stray (first_stray t.top.states ring) (length ring * t.block) (length third) (ap (λ n. ltb (length third) (n * t.block)) size ∙ fits)) in
+      read_done t st s third after_third r (option_map Refused o) (read ∙ ap (λ l. stray_fault (first_stray t.top.states l)) (sym held-ring) ∙ sym decoded ∙ ap (option_map Refused) (sym fault)) answer
+      (buffer ∙ ap₂ (λ f y. unless_refused f (written_over (rotate y (t.decode ring)) third) third) (sym fault) turn ∙ ap (λ l. unless_refused o (written_over (rotate (neg_ℤ (t.drift *ℤ s.steps)) (t.decode l)) third) third) held-ring ∙ by o) where
+        by : (o : Option TowerFault) → unless_refused o (written_over (reading t s) third) third ≡ unless_refused (option_map Refused o) (written_over (reading t s) third) third
+        by None = refl
+        by (Some f) = refl

@@ -1,17 +1,16 @@
 -- Lemmas on what a run shows: the limits alone decide its calls, and steps lead from what it shows to what it shows next.
 use Rattle.std.proofs.Common.{◌≡◌, ℕ, zero, suc, ◌+◌, ◌*◌, Bool, true, false, cond, ◌||◌, ltb, List, [], ◌∷◌, length, ℤ, pos, negsuc, ◌+ℤ◌, ◌-ℤ◌, neg_ℤ, is_some, IfNone, Some, None, Option, Result, sym, refl, ap, ◌∙◌, subst, ap₂, arith}
 use Rattle.std.proofs.lemmas.Int.{ints}
-use Rattle.std.proofs.lemmas.Bool.{le-ltb}
-use Rattle.std.specs.Option.{option_map}
+use Rattle.std.specs.Option.{option_map, option_or}
 use Rattle.rings.specs.declared.Direction.{Direction}
 use Rattle.rings.specs.declared.Direction.TheVariants.{Forward, Backward}
 use Rattle.rings.specs.Ring.{Ring, first_stray}
 use Rattle.rings.specs.Local.{Local}
 use Rattle.rings.specs.Automaton.{Automaton, toward, after, Goes}
+use Rattle.rings.specs.Refusals.{outcome}
 use Rattle.rings.proofs.Ring.{first_stray-codes}
 use Rattle.rings.proofs.Automaton.{after_add, length-after, ring-after, goes_any}
 use Rattle.rules.specs.declared.fault.RuleFault.TheVariants.{ShortBuffer, NoInverse}
-use Rattle.runs.specs.Outcomes.{outcome, unless_refused}
 use Rattle.towers.specs.Towers.{Tower, Fitting, Stands}
 use Rattle.towers.proofs.Steps.{goes_same}
 use Rattle.runs.specs.declared.Call.{Call}
@@ -20,10 +19,10 @@ use Rattle.runs.specs.declared.RefusedCall.{RefusedCall}
 use Rattle.runs.specs.declared.fault.RunFault.{RunFault}
 use Rattle.runs.specs.declared.fault.RunFault.TheVariants.{TooFar}
 use Rattle.runs.specs.States.{State, held, toward_steps, holding, moved}
-use Rattle.runs.specs.Calls.{rule_fault, refused_if, stray_fault, is_short, is_too_far, move_fault, tried, call_fault, called, performed, earlier, refused_at, first_refused}
+use Rattle.runs.specs.Calls.{rule_fault, refused_if, stray_fault, is_too_far, move_fault, tried, call_fault, called, performed, refused_at, first_refused}
 use Rattle.runs.specs.Laws.{Shows, limit_fault, accepted_steps, next_count, count_after, accepted, last_of, last_step, limit_refused, has_inverse, shown, MoveLaw, PerformLaw}
-use Rattle.runs.proofs.Refusals.{Roomy}
-use Rattle.runs.proofs.Steps.{goes-toward, no_steps, held_moved, cells-moved, steps-moved, length_moved, holding_twice}
+use Rattle.runs.proofs.Refusals.{Roomy, not_short}
+use Rattle.runs.proofs.Steps.{goes-toward, no_steps, held_moved, cells-moved, steps-moved, roomy-moved, holding_twice}
 
 -- steps that an automaton can go
 
@@ -31,7 +30,7 @@ goes_always : (a : Automaton) (k : ℤ) → is_some a.inverse ≡ true → Goes 
 goes_always a (pos n) e = tt
 goes_always a (negsuc n) e = by a.inverse e where
   by : (o : Option Local) → is_some o ≡ true → IfNone o ⊥
-  by None e = let z : ◌≡◌ {A = ℕ} 0 1 = cc in absurd (omega arith)
+  by None e = cc
   by (Some g) e = tt
 
 goes-forward : (a : Automaton) (k : ℤ) (n : ℕ) → Goes a k → Goes a (k +ℤ pos n)
@@ -53,11 +52,8 @@ module _ (t : Tower) (st : Stands t) where
   same_way Backward = st.inverse
 
   module _ (c : List ℕ) (k : ℤ) (s : State) (w : Shows t c k s) where
-    room : Roomy s
-    room = record { a = w.room_a; b = w.room_b }
-
-    pub not_short : is_short s ≡ false
-    not_short = ap₂ ◌||◌ (le-ltb (length s.a) s.cells w.room_a) (le-ltb (length s.b) s.cells w.room_b)
+    has_room : Roomy s
+    has_room = record { a = w.room_a; b = w.room_b }
 
     ring_start : Ring t.top.states (t.encode c)
     ring_start = st.ring_encode s.cells c w.fitting
@@ -75,16 +71,16 @@ module _ (t : Tower) (st : Stands t) where
 
     pub move_fault-shown : (d : Direction) (n : ℕ) → move_fault d t.top n s ≡ cond (is_some (toward d t.bottom)) (refused_if (is_too_far d k n) TooFar) (Some (rule_fault NoInverse))
     move_fault-shown d n =
-        ap₂ (λ b o. cond (is_some (toward d t.top)) (cond b (Some (rule_fault ShortBuffer)) (cond (is_too_far d s.steps n) (Some TooFar) o)) (Some (rule_fault NoInverse))) not_short no_stray
+        ap₂ (λ b o. cond (is_some (toward d t.top)) (cond b (Some (rule_fault ShortBuffer)) (cond (is_too_far d s.steps n) (Some TooFar) o)) (Some (rule_fault NoInverse))) (not_short s has_room) no_stray
         ∙ ap₂ (λ b z. cond b (cond (is_too_far d z n) (Some TooFar) None) (Some (rule_fault NoInverse))) (same_way d) w.count
 
     pub call_fault-shown : (call : Call) (room : ℕ) → call_fault t call s room ≡ limit_fault (has_inverse t) (ltb room (length c)) k call
     call_fault-shown (Advance n) room = move_fault-shown Forward n
     call_fault-shown (Back n) room = move_fault-shown Backward n
     call_fault-shown Read room =
-        ap₂ (λ b o. cond (b || ltb room (s.cells * t.block)) (Some (rule_fault ShortBuffer)) o) not_short no_stray
+        ap₂ (λ b o. cond (b || ltb room (s.cells * t.block)) (Some (rule_fault ShortBuffer)) o) (not_short s has_room) no_stray
         ∙ ap (λ n. cond (ltb room n) (Some (rule_fault ShortBuffer)) None) (sym w.fitting.size)
-    call_fault-shown Present room = ap (λ b. refused_if b (rule_fault ShortBuffer)) not_short
+    call_fault-shown Present room = ap (λ b. refused_if b (rule_fault ShortBuffer)) (not_short s has_room)
     call_fault-shown Tell room = refl
 
     -- steps that are not refused
@@ -105,11 +101,11 @@ module _ (t : Tower) (st : Stands t) where
         let cells = cells-moved d t.top n s in
         record {
           fitting = subst (λ m. Fitting t m c) (sym cells) w.fitting;
-          room_a = omega (arith, cells, w.room_a, length_moved true d t.top n s room);
-          room_b = omega (arith, cells, w.room_b, length_moved false d t.top n s room);
+          room_a = (roomy-moved d t.top s has_room n).a;
+          room_b = (roomy-moved d t.top s has_room n).b;
           count = steps-moved d t.top n s ∙ ap (λ z. z +ℤ toward_steps d n) w.count;
           goes = goes_more d t.bottom k n e w.goes;
-          ring = held_moved d t.top s room n ∙ after-shown d n e;
+          ring = held_moved d t.top s has_room n ∙ after-shown d n e;
         }
 
     -- the buffers after one step or more
@@ -122,23 +118,27 @@ module _ (t : Tower) (st : Stands t) where
 
     -- the accepted steps of a call
 
+    -- why n steps are refused, if they are
+    abbrev limit : Direction → ℕ → Option RunFault
+    limit d n = cond (is_some (toward d t.bottom)) (refused_if (is_too_far d k n) TooFar) (Some (rule_fault NoInverse))
+
     taken : Direction → ℕ → ℕ
-    taken d n = unless_refused (cond (is_some (toward d t.bottom)) (refused_if (is_too_far d k n) TooFar) (Some (rule_fault NoInverse))) n 0
+    taken d n = cond (is_some (limit d n)) 0 n
 
     tried-shown : (d : Direction) (n : ℕ) → tried d t.top n s ≡ moved d t.top (taken d n) s
     unfolding taken moved
-    tried-shown d n = ap (λ o. unless_refused o (moved d t.top n s) s) (move_fault-shown d n) ∙ by (cond (is_some (toward d t.bottom)) (refused_if (is_too_far d k n) TooFar) (Some (rule_fault NoInverse))) where
-      by : (o : Option RunFault) → unless_refused o (moved d t.top n s) s ≡ moved d t.top (unless_refused o n 0) s
-      by None = refl
-      by (Some f) = refl
+    tried-shown d n = ap (λ o. cond (is_some o) s (moved d t.top n s)) (move_fault-shown d n) ∙ by (is_some (limit d n)) where
+      by : (b : Bool) → cond b s (moved d t.top n s) ≡ moved d t.top (cond b 0 n) s
+      by true = refl
+      by false = refl
 
     -- where steps are taken, the bottom goes that way
     taken_goes : (d : Direction) (n m : ℕ) → taken d n ≡ suc m → is_some (toward d t.bottom) ≡ true
     unfolding taken
     taken_goes d n m h = by (is_some (toward d t.bottom)) h where
-      by : (b : Bool) → unless_refused (cond b (refused_if (is_too_far d k n) TooFar) (Some (rule_fault NoInverse))) n 0 ≡ suc m → b ≡ true
+      by : (b : Bool) → cond (is_some (cond b (refused_if (is_too_far d k n) TooFar) (Some (rule_fault NoInverse)))) 0 n ≡ suc m → b ≡ true
       by true h = refl
-      by false h = absurd (omega arith)
+      by false h = cc
 
 -- a state in which a run with the first state `first` can be: it shows c after k steps, and its last step went in a direction
 pub record Stage (t : Tower) (c : List ℕ) (first : State) (k : ℤ) (last : Option Direction) (s : State) : Type 0 where
@@ -209,7 +209,7 @@ module _ (t : Tower) (st : Stands t) (c : List ℕ) (first : State) where
   unfolding first_refused limit_refused
   first_refused-shown [] i room k last s g = refl
   first_refused-shown (call ∷ calls) i room k last s g =
-      ap₂ (λ f rest. earlier (option_map (refused_at i) f) rest) (call_fault-shown t st c k s g.shows call room)
+      ap₂ (λ f rest. option_or (option_map (refused_at i) f) rest) (call_fault-shown t st c k s g.shows call room)
       (first_refused-shown calls (i + 1) room (next_count (has_inverse t) k call) _ (called t call s) (stage_called k last s g call))
 
 -- the count is the accepted steps forward less those back

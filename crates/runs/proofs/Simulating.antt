@@ -1,19 +1,19 @@
 -- Lemmas on whole simulations.
-use Rattle.std.proofs.Common.{◌≡◌, ℕ, ◌*◌, ◌/◌, ◌%◌, ◌<◌, ◌≤◌, min, Bool, true, false, cond, eqb, ltb, List, [], ◌∷◌, length, ℤ, pos, ◌*ℤ◌, is_some, Some, None, Option, Result, sym, refl, ap, ◌∙◌, subst, ⊎_elim, div-add-mod', arith}
+use Rattle.std.proofs.Common.{◌≡◌, ℕ, ◌/◌, ◌%◌, ◌<◌, ◌≤◌, min, true, false, cond, eqb, List, [], ◌∷◌, length, ℤ, pos, ◌*ℤ◌, is_some, Some, None, Option, Result, sym, refl, ap, ◌∙◌, subst, div-add-mod', arith}
 use Rattle.std.proofs.lemmas.Int.{ints}
-use Rattle.std.proofs.lemmas.Bool.{eqb-true, eqb-false, ltb-false, lt-ltb, le-ltb, cases_lt}
-use Rattle.std.specs.Option.{option_map}
+use Rattle.std.proofs.lemmas.Bool.{le-ltb}
+use Rattle.std.proofs.lemmas.Bool.Decides.{nat_tests}
+use Rattle.std.specs.Option.{option_map, option_or}
 use Rattle.rings.specs.declared.Direction.{Direction}
 use Rattle.rings.specs.declared.Direction.TheVariants.{Forward, Backward}
 use Rattle.rings.specs.Line.{power}
 use Rattle.rings.specs.Ring.{first_stray}
 use Rattle.rings.specs.Automaton.{after}
 use Rattle.rings.proofs.Automaton.{length-after}
-use Rattle.rules.specs.declared.fault.RuleFault.TheVariants.{EmptyRing, LongRing, ShortBuffer}
+use Rattle.rings.specs.Refusals.{unless_refused}
+use Rattle.rules.specs.declared.fault.RuleFault.TheVariants.{ShortBuffer}
 use Rattle.rules.specs.Maps.{written_over}
-use Rattle.runs.specs.Outcomes.{unless_refused}
 use Rattle.combinators.specs.Lifts.{lifted}
-use Rattle.towers.specs.declared.fault.TowerFault.TheVariants.{Rule, Ragged}
 use Rattle.towers.specs.Towers.{Tower, Stands}
 use Rattle.towers.specs.Numbers.{Standing}
 use Rattle.towers.specs.Encodings.{stray_or_short, encode_fault}
@@ -24,59 +24,37 @@ use Rattle.runs.specs.declared.Told.{Told}
 use Rattle.runs.specs.declared.fault.RunFault.{RunFault}
 use Rattle.runs.specs.declared.fault.RunFault.TheVariants.{Tower as Refused}
 use Rattle.runs.specs.States.{State, holder}
-use Rattle.runs.specs.Calls.{rule_fault, refused_if, reading, read_buffer, called, called_third, performed_third, earlier, made}
+use Rattle.runs.specs.Calls.{rule_fault, refused_if, reading, read_buffer, called, called_third, performed_third, made}
 use Rattle.runs.specs.Laws.{Shows, limit_fault, limit_refused, shown, Performs, last_step, accepted, has_inverse, bottom_after, final_count, PerformLaw, ReadLaw, SimulatesRun, ExactInverse}
 use Rattle.runs.specs.Simulations.{usable_room, simulate_fault}
 use Rattle.runs.proofs.Steps.{written_twice, length-written}
 use Rattle.runs.proofs.Shown.{Stage, stage_first, stage_called, call_fault-shown}
-use Rattle.runs.proofs.Performing.{earlier_none}
+use Rattle.runs.proofs.Performing.{option_or_none}
 use Rattle.runs.proofs.Reading.{reading-shown}
-use Rattle.runs.proofs.Making.{shows-made}
+use Rattle.runs.proofs.Making.{fitting-made, cells_room, shows-made}
 
 -- refusals
 
 some_block : (n m : ℕ) → eqb n 0 ≡ false → eqb (n % m) 0 ≡ true → 0 < n / m
-some_block n m e f = ⊎_elim
-    (λ (l : n / m < 1). let z : n / m ≡ 0 = omega arith in absurd (omega (arith, eqb-false n 0 e, eqb-true (n % m) 0 f, div-add-mod' n m, ap (λ k. k * m) z)))
-    (λ (l : 1 ≤ n / m). l)
-    (cases_lt (n / m) 1)
+some_block n m e f = grind (arith, nat_tests, div-add-mod')
+
+short_room : (o : Option ℕ) (cells room : ℕ) → 0 < cells → option_map Refused (stray_or_short o cells 0) ≡ option_or (option_map Refused (stray_or_short o cells room)) (Some (rule_fault ShortBuffer))
+short_room (Some i) cells room h = refl
+short_room None cells room h = grind (arith, nat_tests)
 
 -- no room is refused as a short third buffer is
-no_room : (q m : ℕ) (c : List ℕ) (room : ℕ) → option_map Refused (encode_fault q m c 0) ≡ earlier (option_map Refused (encode_fault q m c room)) (Some (rule_fault ShortBuffer))
-no_room q m c room = by (eqb (length c) 0) (ltb 2048 (length c)) (eqb (length c % m) 0) refl refl where
-  short : (o : Option ℕ) → 0 < length c / m → option_map Refused (stray_or_short o (length c / m) 0) ≡ earlier (option_map Refused (stray_or_short o (length c / m) room)) (Some (rule_fault ShortBuffer))
-  short (Some i) h = refl
-  short None h = ap (λ b. option_map Refused (cond b (Some (Rule ShortBuffer)) None)) (lt-ltb 0 (length c / m) h) ∙ either (ltb room (length c / m)) where
-    either : (b : Bool) → Some (Refused (Rule ShortBuffer)) ≡ earlier (option_map Refused (cond b (Some (Rule ShortBuffer)) None)) (Some (rule_fault ShortBuffer))
-    either true = refl
-    either false = refl
-
-  by : (x y z : Bool) → eqb (length c) 0 ≡ x → eqb (length c % m) 0 ≡ z
-      → option_map Refused (cond x (Some (Rule EmptyRing)) (cond y (Some (Rule LongRing)) (cond z (stray_or_short (first_stray q c) (length c / m) 0) (Some Ragged))))
-      ≡ earlier (option_map Refused (cond x (Some (Rule EmptyRing)) (cond y (Some (Rule LongRing)) (cond z (stray_or_short (first_stray q c) (length c / m) room) (Some Ragged))))) (Some (rule_fault ShortBuffer))
-  by true y z ex ez = refl
-  by false true z ex ez = refl
-  by false false false ex ez = refl
-  by false false true ex ez = short (first_stray q c) (some_block (length c) m ex ez)
+no_room : (q m : ℕ) (c : List ℕ) (room : ℕ) → option_map Refused (encode_fault q m c 0) ≡ option_or (option_map Refused (encode_fault q m c room)) (Some (rule_fault ShortBuffer))
+no_room q m c room = grind (arith, nat_tests, some_block (length c) m, short_room (first_stray q c) (length c / m) room)
 
 pub usable_fault : (t : Tower) (c : List ℕ) (a b third : ℕ) → option_map Refused (encode_fault t.bottom.states t.block c (usable_room (length c) a b third)) ≡ simulate_fault t c a b third
-usable_fault t c a b third = by (ltb third (length c)) where
-  by : (x : Bool) → option_map Refused (encode_fault t.bottom.states t.block c (cond x 0 (min a b))) ≡ earlier (option_map Refused (encode_fault t.bottom.states t.block c (min a b))) (refused_if x (rule_fault ShortBuffer))
-  by true = no_room t.bottom.states t.block c (min a b)
-  by false = sym (earlier_none (option_map Refused (encode_fault t.bottom.states t.block c (min a b))))
+usable_fault t c a b third = grind (arith, nat_tests, no_room t.bottom.states t.block c (min a b), option_or_none)
 
 pub usable_le : (n a b third : ℕ) → (usable_room n a b third ≤ a) × (usable_room n a b third ≤ b)
-usable_le n a b third = by (ltb third n) where
-  by : (x : Bool) → (cond x 0 (min a b) ≤ a) × (cond x 0 (min a b) ≤ b)
-  by true = (omega arith, omega arith)
-  by false = (omega arith, omega arith)
+usable_le n a b third = (grind (arith, nat_tests), grind (arith, nat_tests))
 
 -- a third buffer that is not too short has room for the ring
 pub third_room : (n a b third : ℕ) → 0 < usable_room n a b third → n ≤ third
-third_room n a b third = by (ltb third n) refl where
-  by : (x : Bool) → ltb third n ≡ x → 0 < cond x 0 (min a b) → n ≤ third
-  by true e h = absurd (omega arith)
-  by false e h = ltb-false third n e
+third_room n a b third h = grind (arith, nat_tests)
 
 -- the third buffer: whatever a list reads, a ring written over it leaves nothing of it
 
@@ -115,13 +93,22 @@ bottom_none : (t : Tower) (c : List ℕ) → bottom_after t (pos 0) c ≡ c
 unfolding power
 bottom_none t c = let e : pos t.steps *ℤ pos 0 ≡ pos 0 = omega (arith, ints) in ap (λ z. after t.bottom z c) e
 
-module _ (t : Tower) (standing : Standing t) (c : List ℕ) (calls : List Call) (a b third : List ℕ) (room : ℕ) (room_a : room ≤ length a) (room_b : room ≤ length b) (room_third : length c ≤ length third)
-    (unrefused : encode_fault t.bottom.states t.block c room ≡ None)
+module _ (t : Tower) (standing : Standing t) (c : List ℕ) (calls : List Call) (a b third : List ℕ)
+    (unrefused : encode_fault t.bottom.states t.block c (usable_room (length c) (length a) (length b) (length third)) ≡ None)
     (first s : State) (is_made : first ≡ made t c a b) (tells : Told) (refused : Option RefusedCall) (then_third last_third : List ℕ) (r : Result (Unit {0}) RunFault)
     (performs : PerformLaw t calls first s (length third) refused) (reads_so_far : then_third ≡ performed_third t calls first third) (same_length : length then_third ≡ length third)
     (reads : ReadLaw t s then_third last_third r) (told : tells ≡ record { cells = s.cells; steps = s.steps; holder = holder s.steps }) where
+  fits : (usable_room (length c) (length a) (length b) (length third) ≤ length a) × (usable_room (length c) (length a) (length b) (length third) ≤ length b)
+  fits = usable_le (length c) (length a) (length b) (length third)
+
   shows_first : Shows t c (pos 0) first
-  shows_first = subst (Shows t c (pos 0)) (sym is_made) (shows-made t c a room room room_a refl standing unrefused b room_b)
+  shows_first = subst (Shows t c (pos 0)) (sym is_made) (shows-made t c a _ fits.0 standing unrefused b fits.1)
+
+  room_third : length c ≤ length third
+  room_third =
+      let some = (fitting-made t c a _ fits.0 standing unrefused).some in
+      let room = cells_room t c a _ fits.0 standing unrefused in
+      third_room (length c) (length a) (length b) (length third) (omega (arith, some, room))
 
   done : Performs t calls c (pos 0) first s (length third) refused
   done = performs c (pos 0) shows_first
@@ -130,11 +117,11 @@ module _ (t : Tower) (standing : Standing t) (c : List ℕ) (calls : List Call) 
   read =
       let k = final_count t calls in
       let size : length (bottom_after t k c) ≡ length c = length-after t.bottom (pos t.steps *ℤ k) c in
-      (reads c k done.shows).buffer (omega (arith, same_length))
+      (reads c k done.shows).buffer (omega (arith, same_length, room_third))
       ∙ ap (written_over (bottom_after t k c)) reads_so_far
       ∙ third_performed t standing.laws c first (bottom_after t k c) size calls (pos 0) None first (stage_first t standing.laws c (pos 0) first shows_first) third room_third
 
-  pub simulates_run : SimulatesRun t c calls a b third tells refused s last_third
+  simulates_run : SimulatesRun t c calls a b third tells refused s last_third
   simulates_run = record {
     told = told ∙ ap (λ z. record { cells = s.cells; steps = z; holder = holder z }) done.shows.count;
     refused = done.answer ∙ ap (λ x. limit_refused (has_inverse t) x 0 calls (pos 0)) (le-ltb (length third) (length c) room_third);
@@ -145,7 +132,7 @@ module _ (t : Tower) (standing : Standing t) (c : List ℕ) (calls : List Call) 
     shows = done.shows;
   }
 
-  pub exact_inverse : ExactInverse t c calls third s last_third
+  exact_inverse : ExactInverse t c calls third s last_third
   unfolding power
   exact_inverse lower can is-lift =
       let inverse : has_inverse t ≡ true = ap (λ x. is_some x.inverse) is-lift ∙ ap (λ x. is_some (cond x (lifted lower) lower).inverse) can in
@@ -155,3 +142,6 @@ module _ (t : Tower) (standing : Standing t) (c : List ℕ) (calls : List Call) 
         reads = λ e. read ∙ ap (λ z. written_over (bottom_after t z c) third) (none e) ∙ ap (λ l. written_over l third) (bottom_none t c);
         presents = λ e. done.shows.ring ∙ ap (λ z. after t.top z (t.encode c)) (none e);
       }
+
+  pub simulates : SimulatesRun t c calls a b third tells refused s last_third × ExactInverse t c calls third s last_third
+  simulates = (simulates_run, exact_inverse)

@@ -1,14 +1,14 @@
 -- What each call on a run answers, and what it makes of the run and of the buffers.
 use Rattle.std.specs.Prelude.{ℕ, ◌+◌, ◌*◌, ◌/◌, min, Bool, cond, ◌||◌, List, [], ◌∷◌, length, ℤ, pos, ◌+ℤ◌, ◌*ℤ◌, neg_ℤ, is_some, Some, None, Option, nat_lt, unsigned_abs}
-use Rattle.std.specs.Option.{option_map}
+use Rattle.std.specs.Option.{option_map, option_or}
 use Rattle.rings.specs.declared.Direction.{Direction}
 use Rattle.rings.specs.declared.Direction.TheVariants.{Forward, Backward}
 use Rattle.rings.specs.Ring.{first_stray, rotate}
 use Rattle.rings.specs.Automaton.{Automaton, toward}
+use Rattle.rings.specs.Refusals.{unless_refused}
 use Rattle.rules.specs.declared.fault.RuleFault.{RuleFault}
 use Rattle.rules.specs.declared.fault.RuleFault.TheVariants.{StrayCode, ShortBuffer, NoInverse}
 use Rattle.rules.specs.Maps.{written_over}
-use Rattle.runs.specs.Outcomes.{unless_refused}
 use Rattle.towers.specs.declared.fault.TowerFault.TheVariants.{Rule}
 use Rattle.towers.specs.Towers.{Tower as Meaning}
 use Rattle.towers.specs.Encodings.{encode_fault}
@@ -21,12 +21,15 @@ use Rattle.runs.specs.States.{State, held, toward_steps, moved}
 
 -- refusals and outcomes
 
+-- A refusal of a rule, as one of a run.
 abbrev pub rule_fault : RuleFault → RunFault
 rule_fault f = Tower (Rule f)
 
+-- The refusal, where the test holds.
 abbrev pub refused_if : Bool → RunFault → Option RunFault
 refused_if b f = cond b (Some f) None
 
+-- The refusal of the stray code at an index, if there is one.
 abbrev pub stray_fault : Option ℕ → Option RunFault
 stray_fault None = None
 stray_fault (Some i) = Some (rule_fault (StrayCode i))
@@ -58,8 +61,9 @@ move_fault d a n s =
     (cond (is_short s) (Some (rule_fault ShortBuffer)) (cond (is_too_far d s.steps n) (Some TooFar) (stray_fault (first_stray a.states (held s)))))
     (Some (rule_fault NoInverse))
 
+-- The run after n steps are asked for: as it was, where they are refused.
 abbrev pub tried : Direction → Automaton → ℕ → State → State
-tried d a n s = unless_refused (move_fault d a n s) (moved d a n s) s
+tried d a n s = cond (is_some (move_fault d a n s)) s (moved d a n s)
 
 -- read and present
 
@@ -71,9 +75,11 @@ reading t s = rotate (neg_ℤ (t.drift *ℤ s.steps)) (t.decode (held s))
 abbrev pub read_fault : Meaning → State → ℕ → Option RunFault
 read_fault t s room = cond (is_short s || nat_lt room (s.cells * t.block)) (Some (rule_fault ShortBuffer)) (stray_fault (first_stray t.top.states (held s)))
 
+-- The buffer after a reading into it.
 abbrev pub read_buffer : Meaning → State → List ℕ → List ℕ
 read_buffer t s third = unless_refused (read_fault t s (length third)) (written_over (reading t s) third) third
 
+-- Why the held ring is not presented, if it is not.
 abbrev pub present_fault : State → Option RunFault
 present_fault s = refused_if (is_short s) (rule_fault ShortBuffer)
 
@@ -113,11 +119,6 @@ unfoldable pub performed_third : Meaning → List Call → State → List ℕ �
 performed_third t [] s third = third
 performed_third t (call ∷ calls) s third = performed_third t calls (called t call s) (called_third t call s third)
 
--- The first of two refusals.
-abbrev pub earlier : {X : Type 0} → Option X → Option X → Option X
-earlier None o = o
-earlier (Some x) o = Some x
-
 -- The refused call at an index.
 abbrev pub refused_at : ℕ → RunFault → RefusedCall
 refused_at i f = record { index = i; fault = f }
@@ -125,4 +126,4 @@ refused_at i f = record { index = i; fault = f }
 -- The first refused call of a list, where the calls are counted from i on.
 unfoldable pub first_refused : Meaning → ℕ → List Call → State → ℕ → Option RefusedCall
 first_refused t i [] s room = None
-first_refused t i (call ∷ calls) s room = earlier (option_map (refused_at i) (call_fault t call s room)) (first_refused t (i + 1) calls (called t call s) room)
+first_refused t i (call ∷ calls) s room = option_or (option_map (refused_at i) (call_fault t call s room)) (first_refused t (i + 1) calls (called t call s) room)

@@ -1,14 +1,14 @@
 -- The law of runs: which calls of a list are accepted, what a run then shows, and what it answers.
 use Rattle.std.specs.Prelude.{◌≡◌, ℕ, zero, suc, ◌+◌, ◌≤◌, Bool, true, false, cond, List, [], ◌∷◌, length, ℤ, pos, ◌+ℤ◌, ◌-ℤ◌, ◌*ℤ◌, is_some, Some, None, Option, Result, nat_lt}
-use Rattle.std.specs.Option.{option_map}
+use Rattle.std.specs.Option.{option_map, option_or}
 use Rattle.rings.specs.declared.Direction.{Direction}
 use Rattle.rings.specs.declared.Direction.TheVariants.{Forward, Backward}
 use Rattle.rings.specs.Automaton.{Automaton, after, Goes}
+use Rattle.rings.specs.Refusals.{outcome}
 use Rattle.rules.specs.declared.fault.RuleFault.TheVariants.{ShortBuffer, NoInverse}
 use Rattle.rules.specs.Answers.{shape_of}
 use Rattle.combinators.specs.Lifts.{liftable, lift_or}
 use Rattle.rules.specs.Maps.{written_over}
-use Rattle.runs.specs.Outcomes.{outcome, unless_refused}
 use Rattle.towers.specs.Towers.{Tower, Fitting}
 use Rattle.runs.specs.declared.Call.{Call}
 use Rattle.runs.specs.declared.Call.TheVariants.{Advance, Back, Read, Present, Tell}
@@ -17,7 +17,7 @@ use Rattle.runs.specs.declared.Told.{Told}
 use Rattle.runs.specs.declared.fault.RunFault.{RunFault}
 use Rattle.runs.specs.declared.fault.RunFault.TheVariants.{TooFar}
 use Rattle.runs.specs.States.{State, held, holder, holding, toward_steps}
-use Rattle.runs.specs.Calls.{rule_fault, refused_if, is_too_far, earlier, refused_at, made}
+use Rattle.runs.specs.Calls.{rule_fault, refused_if, is_too_far, refused_at, made}
 
 -- what a run shows
 
@@ -43,10 +43,10 @@ limit_fault inverse short k Tell = None
 
 -- The steps of a direction that a call at the count k makes: its count, if it is accepted.
 abbrev pub accepted_steps : Bool → ℤ → Call → Direction → ℕ
-accepted_steps inverse k (Advance n) Forward = unless_refused (limit_fault inverse false k (Advance n)) n 0
+accepted_steps inverse k (Advance n) Forward = cond (is_some (limit_fault inverse false k (Advance n))) 0 n
 accepted_steps inverse k (Advance n) Backward = 0
 accepted_steps inverse k (Back n) Forward = 0
-accepted_steps inverse k (Back n) Backward = unless_refused (limit_fault inverse false k (Back n)) n 0
+accepted_steps inverse k (Back n) Backward = cond (is_some (limit_fault inverse false k (Back n))) 0 n
 accepted_steps inverse k Read d = 0
 accepted_steps inverse k Present d = 0
 accepted_steps inverse k Tell d = 0
@@ -79,8 +79,9 @@ last_step inverse (call ∷ calls) k last =
 -- The first refused call of a list, where the calls are counted from i on, told from the limits alone.
 unfoldable pub limit_refused : Bool → Bool → ℕ → List Call → ℤ → Option RefusedCall
 limit_refused inverse short i [] k = None
-limit_refused inverse short i (call ∷ calls) k = earlier (option_map (refused_at i) (limit_fault inverse short k call)) (limit_refused inverse short (i + 1) calls (next_count inverse k call))
+limit_refused inverse short i (call ∷ calls) k = option_or (option_map (refused_at i) (limit_fault inverse short k call)) (limit_refused inverse short (i + 1) calls (next_count inverse k call))
 
+-- Whether the bottom goes back, and so the top.
 abbrev pub has_inverse : Tower → Bool
 has_inverse t = is_some t.bottom.inverse
 
@@ -99,6 +100,7 @@ pub record Moves (t : Tower) (call : Call) (c : List ℕ) (k : ℤ) (s : State) 
   pub answer : r ≡ outcome (limit_fault (has_inverse t) false k call)
   pub shows : Shows t c (next_count (has_inverse t) k call) s
 
+-- The law of a step call, for every ring that the run shows.
 abbrev pub MoveLaw : Tower → Call → State → State → Result (Unit {0}) RunFault → Type 0
 MoveLaw t call before s r = (c : List ℕ) (k : ℤ) → Shows t c k before → Moves t call c k s r
 
@@ -111,6 +113,7 @@ pub record Reads (t : Tower) (c : List ℕ) (k : ℤ) (third after_third : List 
   pub answer : r ≡ outcome (refused_if (nat_lt (length third) (length c)) (rule_fault ShortBuffer))
   pub buffer : length c ≤ length third → after_third ≡ written_over (bottom_after t k c) third
 
+-- The law of a reading, for every ring that the run shows.
 abbrev pub ReadLaw : Tower → State → List ℕ → List ℕ → Result (Unit {0}) RunFault → Type 0
 ReadLaw t s third after_third r = (c : List ℕ) (k : ℤ) → Shows t c k s → Reads t c k third after_third r
 
@@ -122,6 +125,7 @@ pub record Performs (t : Tower) (calls : List Call) (c : List ℕ) (k : ℤ) (be
   pub buffers : s ≡ shown t c (count_after (has_inverse t) calls k) (last_step (has_inverse t) calls k None) before
   pub count : count_after (has_inverse t) calls k ≡ (k +ℤ pos (accepted (has_inverse t) Forward calls k)) -ℤ pos (accepted (has_inverse t) Backward calls k)
 
+-- The law of a list of calls, for every ring that the run shows.
 abbrev pub PerformLaw : Tower → List Call → State → State → ℕ → Option RefusedCall → Type 0
 PerformLaw t calls before s room r = (c : List ℕ) (k : ℤ) → Shows t c k before → Performs t calls c k before s room r
 

@@ -4,4 +4,3 @@ pub mod Calls
 pub mod Laws
 pub mod Views
 pub mod Simulations
-pub mod Outcomes

@@ -14,6 +14,7 @@ pub record State : Type 0 where
   pub a : List ℕ
   pub b : List ℕ
 
+-- Whether a count is even.
 abbrev pub is_even : ℤ → Bool
 is_even k = unsigned_abs k % 2 == 0
 
@@ -21,9 +22,14 @@ is_even k = unsigned_abs k % 2 == 0
 abbrev pub holder : ℤ → Holder
 holder k = cond (is_even k) A B
 
+-- Of what belongs to A and what belongs to B, that of a buffer.
+abbrev pub of_buffer : Holder → List ℕ → List ℕ → List ℕ
+of_buffer A a b = a
+of_buffer B a b = b
+
 -- Of what belongs to A and what belongs to B, that of the buffer that holds the ring after k steps.
 abbrev pub of_holder : ℤ → List ℕ → List ℕ → List ℕ
-of_holder k a b = cond (is_even k) a b
+of_holder k a b = of_buffer (holder k) a b
 
 -- The ring that the run holds.
 abbrev pub held : State → List ℕ

@@ -1,8 +1,10 @@
 // Why a run refuses: the cases, their numbers and their places.
 ghost use Rattle.std.specs.Prelude.{◌≡◌};
+ghost use Rattle.towers.specs.declared.fault.TowerFault.TheVariants.{Rule};
 ghost use Rattle.runs.specs.declared.fault.RunFault.TheVariants.{Tower};
 ghost use Rattle.runs.specs.Faults.{run_fault_number, run_fault_place};
 
+use rules::RuleFault;
 use std::error::Error;
 use std::fmt;
 use towers::TowerFault;
@@ -42,6 +44,14 @@ impl From<TowerFault> for RunFault {
 
     fn from(fault: TowerFault) -> RunFault {
         RunFault::Tower(fault)
+    }
+}
+
+impl From<RuleFault> for RunFault {
+    ghost from_gives = { λ e r. r ≡ Tower (Rule e) };
+
+    fn from(fault: RuleFault) -> RunFault {
+        RunFault::Tower(fault.into())
     }
 }
 

@@ -7,7 +7,6 @@ mod lists;
 mod run;
 mod simulation;
 
-pub use calls::Unmade;
 pub use fault::RunFault;
 pub use run::Run;
 pub use simulation::{Simulation, simulate};

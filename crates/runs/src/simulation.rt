@@ -3,8 +3,8 @@ ghost use Rattle.std.specs.Prelude.{◌≡◌, ℕ};
 ghost use Rattle.runs.specs.Laws.{Apart};
 ghost use Rattle.runs.specs.Simulations.{usable_room, Simulated};
 
-use crate::calls::begin;
-use crate::{Call, RefusedCall, Run, Told, Unmade};
+use crate::{Call, RefusedCall, Run, RunFault, Told};
+use rings::Refused;
 use towers::Tower;
 
 // What a simulation came to: the run, what it tells, and the first refused call of the list.
@@ -24,12 +24,12 @@ pub fn simulate<T: Tower>(
     a: &mut [u32],
     b: &mut [u32],
     third: &mut [u32],
-) -> Result<Simulation<T>, Unmade<T>>
+) -> Result<Simulation<T>, Refused<T, RunFault>>
     ensures answer { Simulated (T.Tower.tower tower) tower ring.now calls.now a.old b.old third.old result a.new b.new third.new }
     ensures apart { Apart (T.Tower.tower tower) }
 {
     let room = usable_room(ring.len(), a.len(), b.len(), third.len());
-    let mut run = begin(tower, ring, room, a)?;
+    let mut run = Run::begin(tower, ring, room, a)?;
     let refused = run.perform(calls, a, b, third);
     let _ = run.read(a, b, third);
     let told = run.tell();

@@ -3,14 +3,7 @@ use Rattle.runs.specs.Views.{state_of}
 use Rattle.runs.proofs.Shown.{move_law}
 use Rattle.runs.proofs.run.Run.advance.Goals as goal
 
-pub returns : goal.returns
-returns g c =
-    let t = g.T.Tower.tower c.args.self.now.tower in
-    let s = state_of c.args.self.now c.args.a.now c.args.b.now in
-    let st = (g.met.T.Tower.stands c.args.self.now.tower).laws in
-    record {
-      same = c.travel.ensures.same;
-      answer = c.travel.ensures.answer;
-      state = c.travel.ensures.state;
-      law = move_law t st Forward c.args.count s _ _ c.travel.ensures.answer c.travel.ensures.state;
-    }
+pub returns-clause-law : goal.returns-clause-law
+returns-clause-law g c =
+    let x = c.args.self.now.tower in
+    move_law (g.T.Tower.tower x) (g.met.T.Tower.stands x).laws Forward c.args.count (state_of c.args.self.now c.args.a.now c.args.b.now) _ _ c.travel.ensures.answer c.travel.ensures.state
