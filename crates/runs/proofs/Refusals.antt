@@ -3,9 +3,9 @@ use Rattle.std.proofs.Common.{◌≡◌, ℕ, ◌≤◌, false, true, List, leng
 use Rattle.std.proofs.lemmas.Bool.Decides.{nat_tests}
 use Rattle.rings.specs.declared.Direction.{Direction}
 use Rattle.rings.specs.Ring.{Codes, first_stray, IsFirstStray}
-use Rattle.rings.specs.Automaton.{Automaton, toward}
+use Rattle.rings.specs.Automaton.{Automaton, toward, toward_steps}
 use Rattle.rings.proofs.Ring.{is_first_stray, first_stray-codes}
-use Rattle.runs.specs.States.{State, held, toward_steps}
+use Rattle.runs.specs.States.{State, held}
 use Rattle.runs.specs.Calls.{stray_fault, is_short, move_fault, present_fault}
 
 -- The buffers have room for the ring.

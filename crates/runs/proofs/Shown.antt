@@ -6,7 +6,7 @@ use Rattle.rings.specs.declared.Direction.{Direction}
 use Rattle.rings.specs.declared.Direction.TheVariants.{Forward, Backward}
 use Rattle.rings.specs.Ring.{Ring, first_stray}
 use Rattle.rings.specs.Local.{Local}
-use Rattle.rings.specs.Automaton.{Automaton, toward, after, Goes}
+use Rattle.rings.specs.Automaton.{Automaton, toward, after, Goes, toward_steps}
 use Rattle.rings.specs.Refusals.{outcome}
 use Rattle.rings.proofs.Ring.{first_stray-codes}
 use Rattle.rings.proofs.Automaton.{after_add, length-after, ring-after, goes_any}
@@ -18,7 +18,7 @@ use Rattle.runs.specs.declared.Call.TheVariants.{Advance, Back, Read, Present, T
 use Rattle.runs.specs.declared.RefusedCall.{RefusedCall}
 use Rattle.runs.specs.declared.fault.RunFault.{RunFault}
 use Rattle.runs.specs.declared.fault.RunFault.TheVariants.{TooFar}
-use Rattle.runs.specs.States.{State, held, toward_steps, holding, moved}
+use Rattle.runs.specs.States.{State, held, holding, moved}
 use Rattle.runs.specs.Calls.{rule_fault, refused_if, stray_fault, is_too_far, move_fault, tried, call_fault, called, performed, refused_at, first_refused}
 use Rattle.runs.specs.Laws.{Shows, limit_fault, accepted_steps, next_count, count_after, accepted, last_of, last_step, limit_refused, has_inverse, shown, MoveLaw, PerformLaw}
 use Rattle.runs.proofs.Refusals.{Roomy, not_short}

@@ -9,7 +9,7 @@ use Rattle.rings.specs.declared.Direction.TheVariants.{Forward, Backward}
 use Rattle.rings.specs.Line.{power}
 use Rattle.rings.specs.Ring.{Codes, Ring}
 use Rattle.rings.specs.Local.{Local}
-use Rattle.rings.specs.Automaton.{Automaton, Sound, toward, after, Goes}
+use Rattle.rings.specs.Automaton.{Automaton, Sound, toward, after, Goes, toward_steps}
 use Rattle.rings.specs.Refusals.{unless_refused}
 use Rattle.rings.proofs.Ring.{first_stray-codes}
 use Rattle.rings.proofs.Automaton.{after_add, length-after, ring-after}
@@ -17,7 +17,7 @@ use Rattle.rules.specs.Maps.{map_fault, map_buffer, image, written_over, one_ste
 use Rattle.rules.proofs.Maps.{step-laws}
 use Rattle.runs.specs.declared.Holder.{Holder}
 use Rattle.runs.specs.declared.Holder.TheVariants.{A, B}
-use Rattle.runs.specs.States.{State, holder, of_buffer, of_holder, held, toward_steps, holding, moved}
+use Rattle.runs.specs.States.{State, holder, of_buffer, of_holder, held, holding, moved}
 use Rattle.runs.specs.Calls.{move_fault}
 use Rattle.runs.proofs.Refusals.{Roomy, Movable, unrefused}
 

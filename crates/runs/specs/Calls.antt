@@ -4,7 +4,7 @@ use Rattle.std.specs.Option.{option_map, option_or}
 use Rattle.rings.specs.declared.Direction.{Direction}
 use Rattle.rings.specs.declared.Direction.TheVariants.{Forward, Backward}
 use Rattle.rings.specs.Ring.{first_stray, rotate}
-use Rattle.rings.specs.Automaton.{Automaton, toward}
+use Rattle.rings.specs.Automaton.{Automaton, toward, toward_steps}
 use Rattle.rings.specs.Refusals.{unless_refused}
 use Rattle.rules.specs.declared.fault.RuleFault.{RuleFault}
 use Rattle.rules.specs.declared.fault.RuleFault.TheVariants.{StrayCode, ShortBuffer, NoInverse}
@@ -17,7 +17,7 @@ use Rattle.runs.specs.declared.Call.TheVariants.{Advance, Back, Read, Present, T
 use Rattle.runs.specs.declared.RefusedCall.{RefusedCall}
 use Rattle.runs.specs.declared.fault.RunFault.{RunFault}
 use Rattle.runs.specs.declared.fault.RunFault.TheVariants.{Tower, TooFar}
-use Rattle.runs.specs.States.{State, held, toward_steps, moved}
+use Rattle.runs.specs.States.{State, held, moved}
 
 -- refusals and outcomes
 

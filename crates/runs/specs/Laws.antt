@@ -3,7 +3,7 @@ use Rattle.std.specs.Prelude.{◌≡◌, ℕ, zero, suc, ◌+◌, ◌≤◌, Boo
 use Rattle.std.specs.Option.{option_map, option_or}
 use Rattle.rings.specs.declared.Direction.{Direction}
 use Rattle.rings.specs.declared.Direction.TheVariants.{Forward, Backward}
-use Rattle.rings.specs.Automaton.{Automaton, after, Goes}
+use Rattle.rings.specs.Automaton.{Automaton, after, Goes, toward_steps}
 use Rattle.rings.specs.Refusals.{outcome}
 use Rattle.rules.specs.declared.fault.RuleFault.TheVariants.{ShortBuffer, NoInverse}
 use Rattle.rules.specs.Answers.{shape_of}
@@ -16,7 +16,7 @@ use Rattle.runs.specs.declared.RefusedCall.{RefusedCall}
 use Rattle.runs.specs.declared.Told.{Told}
 use Rattle.runs.specs.declared.fault.RunFault.{RunFault}
 use Rattle.runs.specs.declared.fault.RunFault.TheVariants.{TooFar}
-use Rattle.runs.specs.States.{State, held, holder, holding, toward_steps}
+use Rattle.runs.specs.States.{State, held, holder, holding}
 use Rattle.runs.specs.Calls.{rule_fault, refused_if, is_too_far, refused_at, made}
 
 -- what a run shows

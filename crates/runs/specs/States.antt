@@ -2,7 +2,7 @@
 use Rattle.std.specs.Prelude.{ℕ, zero, suc, ◌%◌, Bool, cond, List, take, ℤ, pos, ◌+ℤ◌, neg_ℤ, ◌==◌, unsigned_abs}
 use Rattle.rings.specs.declared.Direction.{Direction}
 use Rattle.rings.specs.declared.Direction.TheVariants.{Forward, Backward}
-use Rattle.rings.specs.Automaton.{Automaton, after}
+use Rattle.rings.specs.Automaton.{Automaton, after, toward_steps}
 use Rattle.rules.specs.Maps.{written_over}
 use Rattle.runs.specs.declared.Holder.{Holder}
 use Rattle.runs.specs.declared.Holder.TheVariants.{A, B}
@@ -34,11 +34,6 @@ of_holder k a b = of_buffer (holder k) a b
 -- The ring that the run holds.
 abbrev pub held : State → List ℕ
 held s = take s.cells (of_holder s.steps s.a s.b)
-
--- n steps of a direction, as a number of steps.
-abbrev pub toward_steps : Direction → ℕ → ℤ
-toward_steps Forward n = pos n
-toward_steps Backward n = neg_ℤ (pos n)
 
 -- The run at the count k: the buffer that then holds the ring has `ring` in its first cells, the other `earlier`.
 abbrev pub holding : ℤ → List ℕ → List ℕ → State → State

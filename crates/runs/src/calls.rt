@@ -1,10 +1,10 @@
 // The calls on a run.
 ghost use Rattle.std.specs.Prelude.{◌≡◌, ℕ, ◌≤◌, List, length, ℤ, ◌+ℤ◌, ◌*ℤ◌, neg_ℤ, Some, None, MatchResult};
 ghost use Rattle.rings.specs.declared.Direction.TheVariants.{Forward, Backward};
-ghost use Rattle.rings.specs.Automaton.{after};
+ghost use Rattle.rings.specs.Automaton.{after, toward_steps};
 ghost use Rattle.rings.specs.Refusals.{outcome};
 ghost use Rattle.runs.specs.declared.Call.TheVariants.{Advance, Back};
-ghost use Rattle.runs.specs.States.{held, holder, toward_steps, moved};
+ghost use Rattle.runs.specs.States.{held, holder, moved};
 ghost use Rattle.runs.specs.Calls.{is_too_far, move_fault, tried, read_fault, read_buffer, present_fault};
 ghost use Rattle.runs.specs.Laws.{Apart, MoveLaw, ReadLaw, Shows};
 ghost use Rattle.runs.specs.Views.{state_of, told_of, Begins, Makes};

@@ -1,6 +1,6 @@
+use Rattle.rings.specs.Automaton.{toward_steps}
 use Rattle.std.proofs.Common.{◌+ℤ◌, take, sym, ap, ◌∙◌}
 use Rattle.rules.specs.Maps.{map_buffer}
-use Rattle.runs.specs.States.{toward_steps}
 use Rattle.runs.specs.Views.{state_of}
 use Rattle.runs.proofs.Refusals.{movable}
 use Rattle.runs.proofs.Steps.{stored, step_from_a, step_from_b}
