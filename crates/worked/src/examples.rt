@@ -1,5 +1,4 @@
 // The worked rings, computed and compared with what is expected.
-ghost use Rattle.std.specs.Prelude.{◌≤◌};
 ghost use Rattle.worked.specs.Worked.{WorkedRings};
 
 use crate::show::Totals;
@@ -66,10 +65,10 @@ fn step_110(rt: &HostRuntime, totals: &mut Totals) -> anyhow::Result<()> {
 }
 
 // The ring of so many cells whose codes are the digits of a number in base 2.
-fn binary_ring(heap: Global, cells: u32, number: u32) -> Result<Vec<u32>, AllocError>
-    requires { cells ≤ 32 }
-{
-    (0..cells).map(|cell| (number >> cell) % 2).collect(heap)
+fn binary_ring(heap: Global, cells: u32, number: u32) -> Result<Vec<u32>, AllocError> {
+    (0..cells)
+        .map(|cell| number.checked_shr(cell).unwrap_or(0) % 2)
+        .collect(heap)
 }
 
 // Rule 110 mirrored is rule 124, on every ring of a few cells.
