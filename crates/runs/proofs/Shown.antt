@@ -1,11 +1,10 @@
 -- Lemmas on what a run shows: the limits alone decide its calls, and steps lead from what it shows to what it shows next.
-use Rattle.std.proofs.Common.{◌≡◌, ℕ, zero, suc, ◌+◌, ◌*◌, Bool, true, false, cond, ◌||◌, ltb, List, [], ◌∷◌, length, ℤ, pos, negsuc, ◌+ℤ◌, ◌-ℤ◌, neg_ℤ, is_some, IfNone, Some, None, Option, Result, sym, refl, ap, ◌∙◌, subst, ap₂, arith}
+use Rattle.std.proofs.Common.{◌≡◌, ℕ, zero, suc, ◌+◌, ◌*◌, Bool, true, false, cond, ◌||◌, ltb, List, [], ◌∷◌, length, ℤ, pos, negsuc, ◌+ℤ◌, ◌-ℤ◌, neg_ℤ, is_some, Some, None, Option, Result, sym, refl, ap, ◌∙◌, subst, ap₂, arith}
 use Rattle.std.proofs.lemmas.Int.{ints}
 use Rattle.std.specs.Option.{option_map, option_or}
 use Rattle.rings.specs.declared.Direction.{Direction}
 use Rattle.rings.specs.declared.Direction.TheVariants.{Forward, Backward}
 use Rattle.rings.specs.Ring.{Ring, first_stray}
-use Rattle.rings.specs.Local.{Local}
 use Rattle.rings.specs.Automaton.{Automaton, toward, after, Goes, toward_steps}
 use Rattle.rings.specs.Refusals.{outcome}
 use Rattle.rings.proofs.Ring.{first_stray-codes}
@@ -22,16 +21,9 @@ use Rattle.runs.specs.States.{State, held, holding, moved}
 use Rattle.runs.specs.Calls.{rule_fault, refused_if, stray_fault, is_too_far, move_fault, tried, call_fault, called, performed, refused_at, first_refused}
 use Rattle.runs.specs.Laws.{Shows, limit_fault, accepted_steps, next_count, count_after, accepted, last_of, last_step, limit_refused, has_inverse, shown, MoveLaw, PerformLaw}
 use Rattle.runs.proofs.Refusals.{Roomy, not_short}
-use Rattle.runs.proofs.Steps.{goes-toward, no_steps, held_moved, cells-moved, steps-moved, roomy-moved, holding_twice}
+use Rattle.runs.proofs.Steps.{goes_always, goes-toward, no_steps, held_moved, cells-moved, steps-moved, roomy-moved, holding_twice}
 
 -- steps that an automaton can go
-
-goes_always : (a : Automaton) (k : ℤ) → is_some a.inverse ≡ true → Goes a k
-goes_always a (pos n) e = tt
-goes_always a (negsuc n) e = by a.inverse e where
-  by : (o : Option Local) → is_some o ≡ true → IfNone o ⊥
-  by None e = cc
-  by (Some g) e = tt
 
 goes-forward : (a : Automaton) (k : ℤ) (n : ℕ) → Goes a k → Goes a (k +ℤ pos n)
 goes-forward a (pos m) n g = let e : pos (m + n) ≡ pos m +ℤ pos n = omega (arith, ints) in subst (Goes a) e tt

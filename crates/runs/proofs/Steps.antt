@@ -1,5 +1,5 @@
 -- Lemmas on the steps of a run: one step after i steps is i + 1 steps, in the rings and in the buffers.
-use Rattle.std.proofs.Common.{◌≡◌, ℕ, zero, suc, ◌+◌, ◌<◌, ◌≤◌, true, ◌≢◌, List, ◌++◌, length, take, drop, ℤ, ◌+ℤ◌, nat_abs, is_some, IfSome, IfNone, Some, None, Option, sym, refl, ap, ◌∙◌, subst, ap₂, arith, w32, w64, to_z, of_z}
+use Rattle.std.proofs.Common.{◌≡◌, ℕ, zero, suc, ◌<◌, ◌≤◌, true, ◌≢◌, List, ◌++◌, length, take, drop, ℤ, pos, negsuc, ◌+ℤ◌, nat_abs, is_some, IfSome, IfNone, Some, None, Option, sym, refl, ap, ◌∙◌, subst, ap₂, arith, w32, w64, to_z, of_z}
 use Rattle.std.proofs.lemmas.List.{length-take-le, length-append, length-drop, take_at, drop_at, take-append-drop}
 use Rattle.std.proofs.lemmas.Int.{ints}
 use Rattle.std.proofs.lemmas.Bool.Decides.{nat_tests}
@@ -37,17 +37,16 @@ map_buffer_good d a c buffer goes some few fits codes = by (toward d a) goes (st
       rw (ne_eqb (length c) 0 ne) (rw (le-ltb 2048 (length c) few) (rw (le-ltb (length buffer) (length c) fits) (rw (first_stray-codes 0 a.states c codes)
       (ap (λ x. written_over x buffer) (sym (law.one c) ∙ same d)))))
 
+pub goes_always : (a : Automaton) (k : ℤ) → is_some a.inverse ≡ true → Goes a k
+goes_always a (pos n) e = tt
+goes_always a (negsuc n) e = by a.inverse e where
+  by : (o : Option Local) → is_some o ≡ true → IfNone o ⊥
+  by None e = cc
+  by (Some g) e = tt
+
 pub goes-toward : (d : Direction) (a : Automaton) (n : ℕ) → is_some (toward d a) ≡ true → Goes a (toward_steps d n)
 goes-toward Forward a n h = tt
-goes-toward Backward a zero h = tt
-goes-toward Backward a (suc n) h = by a.inverse h where
-  by : (o : Option Local) → is_some o ≡ true → IfNone o ⊥
-  by None h = cc
-  by (Some g) h = tt
-
-toward_steps_add : (d : Direction) (m n : ℕ) → toward_steps d m +ℤ toward_steps d n ≡ toward_steps d (m + n)
-toward_steps_add Forward m n = omega (arith, ints)
-toward_steps_add Backward m n = omega (arith, ints)
+goes-toward Backward a n h = goes_always a (toward_steps Backward n) h
 
 steps_more : (d : Direction) (k : ℤ) (n : ℕ) → (k +ℤ toward_steps d n) +ℤ toward_steps d 1 ≡ k +ℤ toward_steps d (suc n)
 steps_more Forward k n = omega (arith, ints)
@@ -60,9 +59,10 @@ after_none Backward a c = refl
 
 after_more : (d : Direction) (a : Automaton) → Sound a → is_some (toward d a) ≡ true → (c : List ℕ) → Ring a.states c → (i : ℕ) → after a (toward_steps d 1) (after a (toward_steps d i) c) ≡ after a (toward_steps d (suc i)) c
 after_more d a sound goes c ring i =
-    let e : 1 + i ≡ suc i = omega arith in
-    after_add a sound (toward_steps d 1) (toward_steps d i) c ring (goes-toward d a 1 goes) (goes-toward d a i goes)
-    ∙ ap (λ z. after a z c) (toward_steps_add d 1 i ∙ ap (toward_steps d) e)
+    after_add a sound (toward_steps d 1) (toward_steps d i) c ring (goes-toward d a 1 goes) (goes-toward d a i goes) ∙ ap (λ z. after a z c) (one_more d) where
+      one_more : (d : Direction) → toward_steps d 1 +ℤ toward_steps d i ≡ toward_steps d (suc i)
+      one_more Forward = omega (arith, ints)
+      one_more Backward = omega (arith, ints)
 
 -- a run by its parts
 

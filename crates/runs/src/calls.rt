@@ -133,7 +133,7 @@ impl<T: Tower> Run<T> {
     }
 
     // The count of steps after `count` more in a direction.
-    fn goal(&self, direction: Direction, count: u32) -> i64
+    fn steps_after(&self, direction: Direction, count: u32) -> i64
         ensures { result ≡ self.now.steps +ℤ toward_steps direction count }
     {
         match direction {
@@ -146,7 +146,7 @@ impl<T: Tower> Run<T> {
     fn is_too_far(&self, direction: Direction, count: u32) -> bool
         ensures { result ≡ is_too_far direction self.now.steps count }
     {
-        count > MAX_COUNT || self.goal(direction, count).unsigned_abs() > MAX_STEPS
+        count > MAX_COUNT || self.steps_after(direction, count).unsigned_abs() > MAX_STEPS
     }
 
     // Refuses steps that the run does not make.
@@ -178,7 +178,7 @@ impl<T: Tower> Run<T> {
             Holder::A => map_ring(&self.tower, direction, &a[..self.cells], b),
             Holder::B => map_ring(&self.tower, direction, &b[..self.cells], a),
         };
-        self.steps = self.goal(direction, 1) as i32;
+        self.steps = self.steps_after(direction, 1) as i32;
     }
 
     // Steps in a direction.

@@ -18,11 +18,11 @@ returns-clause-state g c =
     let m = movable d t.top 1 (state_of run a b) c.requires in
     elim c.match-holder.branch [
       | in-A w ↦
-          let steps = stored (run.steps +ℤ toward_steps d 1) c.goal.result (c.goal.ensures ∙ ap (λ x. x.steps +ℤ toward_steps d 1) w.self-is) m.near in
+          let steps = stored (run.steps +ℤ toward_steps d 1) c.steps_after.result (c.steps_after.ensures ∙ ap (λ x. x.steps +ℤ toward_steps d 1) w.self-is) m.near in
           step_from_a d t.top (state_of run a b) run.some run.few m (sym w.in-A.ensures) _ _ _ _ (ap (λ x. x.cells) w.self-is) steps w.a-is
           (w.b-is ∙ w.map_ring.ensures.buffer ∙ ap (λ x. map_buffer d x (take run.cells a) b) top)
       | in-B w ↦
-          let steps = stored (run.steps +ℤ toward_steps d 1) c.goal.result (c.goal.ensures ∙ ap (λ x. x.steps +ℤ toward_steps d 1) w.self-is) m.near in
+          let steps = stored (run.steps +ℤ toward_steps d 1) c.steps_after.result (c.steps_after.ensures ∙ ap (λ x. x.steps +ℤ toward_steps d 1) w.self-is) m.near in
           step_from_b d t.top (state_of run a b) run.some run.few m (sym w.in-B.ensures) _ _ _ _ (ap (λ x. x.cells) w.self-is) steps
           (w.a-is ∙ w.map_ring-in-B.ensures.buffer ∙ ap (λ x. map_buffer d x (take run.cells b) a) top) w.b-is
     ]
