@@ -28,7 +28,7 @@ pub enum RuleFault {
 }
 
 impl RuleFault {
-    // The number of the refusal.
+    // The number of the refusal. A method, as `place` is: a refusal has two numbers, and a conversion could give but one.
     pub fn number(self) -> u16
         ensures answer { result ≡ fault_number self }
     {

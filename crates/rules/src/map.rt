@@ -11,7 +11,7 @@ ghost use Rattle.rules.specs.Steps.{value_of, Reads, Placed, part};
 use crate::{Rule, RuleFault, check_codes};
 use rings::{Direction, MAX_CELLS, MAX_WIDTH, cell_at, interval_width};
 
-// Room for the largest ring and the widest window.
+// Room for the largest ring and the widest window, in an array: the library uses no heap.
 const MAX_UNROLLED: usize = MAX_CELLS + MAX_WIDTH;
 
 // Writes the image of a ring under one step of a rule into the first cells of a buffer.
@@ -60,6 +60,7 @@ fn unroll(ring: &[u32], start: usize, cells: &mut [u32])
     requires { start < length ring.now }
     ensures { cells.new ≡ window (at ring.now) (pos start) (length cells.old) }
 {
+    // the place goes round by hand: of cells that `iter_mut` lends to a `zip` with a cycle, a proof knows nothing
     let mut place = start;
     for cell in cells.iter_mut() {
         *cell = ring[place];

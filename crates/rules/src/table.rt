@@ -26,7 +26,7 @@ const ELEMENTARY_SHAPE: Shape = Shape {
 
 const ELEMENTARY_ENTRIES: usize = 8;
 
-// A rule by its entries, which stand at the front of the store. None of them is `states` or more.
+// A rule by its entries, which stand at the front of the store, an array, as the library uses no heap. None of them is `states` or more.
 #[derive(Drop)]
 pub struct Table {
     shape: Shape,

@@ -6,7 +6,7 @@ use Rattle.rings.specs.declared.Direction.{Direction}
 use Rattle.rings.specs.declared.Direction.TheVariants.{Forward, Backward}
 use Rattle.rings.specs.Ring.{Ring, first_stray}
 use Rattle.rings.specs.Automaton.{Automaton, toward, after, Goes, toward_steps}
-use Rattle.rings.specs.Refusals.{outcome}
+use Rattle.rings.specs.Refusals.{outcome, unless_refused}
 use Rattle.rings.proofs.Ring.{first_stray-codes}
 use Rattle.rings.proofs.Automaton.{after_add, length-after, ring-after, goes_any}
 use Rattle.rules.specs.declared.fault.RuleFault.TheVariants.{ShortBuffer, NoInverse}
@@ -115,20 +115,20 @@ module _ (t : Tower) (st : Stands t) where
     limit d n = cond (is_some (toward d t.bottom)) (refused_if (is_too_far d k n) TooFar) (Some (rule_fault NoInverse))
 
     taken : Direction → ℕ → ℕ
-    taken d n = cond (is_some (limit d n)) 0 n
+    taken d n = unless_refused (limit d n) n 0
 
     tried-shown : (d : Direction) (n : ℕ) → tried d t.top n s ≡ moved d t.top (taken d n) s
     unfolding taken moved
-    tried-shown d n = ap (λ o. cond (is_some o) s (moved d t.top n s)) (move_fault-shown d n) ∙ by (is_some (limit d n)) where
-      by : (b : Bool) → cond b s (moved d t.top n s) ≡ moved d t.top (cond b 0 n) s
-      by true = refl
-      by false = refl
+    tried-shown d n = ap (λ o. unless_refused o (moved d t.top n s) s) (move_fault-shown d n) ∙ by (limit d n) where
+      by : (o : Option RunFault) → unless_refused o (moved d t.top n s) s ≡ moved d t.top (unless_refused o n 0) s
+      by None = refl
+      by (Some f) = refl
 
     -- where steps are taken, the bottom goes that way
     taken_goes : (d : Direction) (n m : ℕ) → taken d n ≡ suc m → is_some (toward d t.bottom) ≡ true
     unfolding taken
     taken_goes d n m h = by (is_some (toward d t.bottom)) h where
-      by : (b : Bool) → cond (is_some (cond b (refused_if (is_too_far d k n) TooFar) (Some (rule_fault NoInverse)))) 0 n ≡ suc m → b ≡ true
+      by : (b : Bool) → unless_refused (cond b (refused_if (is_too_far d k n) TooFar) (Some (rule_fault NoInverse))) n 0 ≡ suc m → b ≡ true
       by true h = refl
       by false h = cc
 

@@ -63,7 +63,7 @@ move_fault d a n s =
 
 -- The run after n steps are asked for: as it was, where they are refused.
 abbrev pub tried : Direction → Automaton → ℕ → State → State
-tried d a n s = cond (is_some (move_fault d a n s)) s (moved d a n s)
+tried d a n s = unless_refused (move_fault d a n s) (moved d a n s) s
 
 -- read and present
 

@@ -4,7 +4,7 @@ use Rattle.std.specs.Option.{option_map, option_or}
 use Rattle.rings.specs.declared.Direction.{Direction}
 use Rattle.rings.specs.declared.Direction.TheVariants.{Forward, Backward}
 use Rattle.rings.specs.Automaton.{Automaton, after, Goes, toward_steps}
-use Rattle.rings.specs.Refusals.{outcome}
+use Rattle.rings.specs.Refusals.{outcome, unless_refused}
 use Rattle.rules.specs.declared.fault.RuleFault.TheVariants.{ShortBuffer, NoInverse}
 use Rattle.rules.specs.Answers.{shape_of}
 use Rattle.combinators.specs.Lifts.{liftable, lift_or}
@@ -43,10 +43,10 @@ limit_fault inverse short k Tell = None
 
 -- The steps of a direction that a call at the count k makes: its count, if it is accepted.
 abbrev pub accepted_steps : Bool → ℤ → Call → Direction → ℕ
-accepted_steps inverse k (Advance n) Forward = cond (is_some (limit_fault inverse false k (Advance n))) 0 n
+accepted_steps inverse k (Advance n) Forward = unless_refused (limit_fault inverse false k (Advance n)) n 0
 accepted_steps inverse k (Advance n) Backward = 0
 accepted_steps inverse k (Back n) Forward = 0
-accepted_steps inverse k (Back n) Backward = cond (is_some (limit_fault inverse false k (Back n))) 0 n
+accepted_steps inverse k (Back n) Backward = unless_refused (limit_fault inverse false k (Back n)) n 0
 accepted_steps inverse k Read d = 0
 accepted_steps inverse k Present d = 0
 accepted_steps inverse k Tell d = 0

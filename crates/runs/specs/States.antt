@@ -1,7 +1,6 @@
 -- A run with its buffers, and what its steps make of them.
-use Rattle.std.specs.Prelude.{ℕ, zero, suc, ◌%◌, Bool, cond, List, take, ℤ, pos, ◌+ℤ◌, neg_ℤ, ◌==◌, unsigned_abs}
+use Rattle.std.specs.Prelude.{ℕ, zero, suc, ◌%◌, Bool, cond, List, take, ℤ, ◌+ℤ◌, ◌==◌, unsigned_abs}
 use Rattle.rings.specs.declared.Direction.{Direction}
-use Rattle.rings.specs.declared.Direction.TheVariants.{Forward, Backward}
 use Rattle.rings.specs.Automaton.{Automaton, after, toward_steps}
 use Rattle.rules.specs.Maps.{written_over}
 use Rattle.runs.specs.declared.Holder.{Holder}

@@ -18,7 +18,7 @@ pub enum RunFault {
 }
 
 impl RunFault {
-    // The number of the refusal.
+    // The number of the refusal, beside its place: a conversion could give but one of the two.
     pub fn number(self) -> u16
         ensures answer { result ≡ run_fault_number self }
     {

@@ -1,5 +1,6 @@
-use Rattle.std.proofs.Common.{◌≡◌, suc, ◌+◌, is_some, cond, sym, refl, ap, ◌∙◌, ap₂, arith}
+use Rattle.std.proofs.Common.{◌≡◌, suc, ◌+◌, sym, refl, ap, ◌∙◌, ap₂, arith}
 use Rattle.rings.proofs.Refusals.{accepted, refused}
+use Rattle.rings.specs.Refusals.{unless_refused}
 use Rattle.rings.specs.Automaton.{Automaton}
 use Rattle.runs.specs.States.{State, moved}
 use Rattle.runs.specs.Calls.{move_fault}
@@ -14,7 +15,7 @@ pub returns-in_err-check_move-clause-state : goal.returns-in_err-check_move-clau
 returns-in_err-check_move-clause-state g c =
     let a = (g.T.Tower.tower c.args.self.now.tower).top in
     let s = state_of c.args.self.now c.args.a.now c.args.b.now in
-    ap (λ o. cond (is_some o) s (moved c.args.direction a c.args.count s)) (refused (move_fault c.args.direction a c.args.count s) c.in_err-check_move.field-0.0 c.in_err-check_move.ensures)
+    ap (λ o. unless_refused o (moved c.args.direction a c.args.count s) s) (refused (move_fault c.args.direction a c.args.count s) c.in_err-check_move.field-0.0 c.in_err-check_move.ensures)
 
 -- what is known once nothing refuses
 module _ (g : given.Over) (c : In_ok-check_move g) where
