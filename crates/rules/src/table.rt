@@ -17,13 +17,6 @@ const MAX_TABLE_STATES: u32 = 1024;
 
 const MAX_ENTRIES: usize = 1024;
 
-// An elementary automaton has two states, and reads a cell and its two neighbours.
-const ELEMENTARY_SHAPE: Shape = Shape {
-    states: 2,
-    lo: -1,
-    hi: 1,
-};
-
 const ELEMENTARY_ENTRIES: usize = 8;
 
 // A rule by its entries, which stand at the front of the store, an array, as the library uses no heap. None of them is `states` or more.
@@ -60,7 +53,11 @@ impl Table {
         ensures law { WolframNumbered number (stored_table result.shape.states result.shape.lo result.shape.hi result.store) }
     {
         Table {
-            shape: ELEMENTARY_SHAPE,
+            shape: Shape {
+                states: 2,
+                lo: -1,
+                hi: 1,
+            },
             store: padded(&bits(number)),
         }
     }
