@@ -104,7 +104,7 @@ pub(crate) fn check_rows(heap: Global, published: &Rows) -> anyhow::Result<Optio
     for (row, expected) in published.values.iter().enumerate() {
         let found = ring
             .get(middle.saturating_sub(row)..middle.saturating_add(row).saturating_add(1))
-            .map_or(0, |cells| binary(cells));
+            .map_or(0, binary);
         if found != *expected {
             let expected = format!(in heap; "{expected}")?;
             let found = format!(in heap; "{found}")?;

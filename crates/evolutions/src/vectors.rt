@@ -1,4 +1,4 @@
-// Evolutions that others published, from the On-Line Encyclopedia of Integer Sequences (OEIS) from Golly 3.3,
+// Evolutions that others published, from the On-Line Encyclopedia of Integer Sequences (OEIS), from Golly 3.3,
 // and from the literature on busy beavers.
 
 // The rows of an elementary automaton from a single 1 on. Row k is the binary number of the 2k + 1 cells around the first one.

@@ -1,11 +1,9 @@
 // Steps rule 110 on a ring of 2,048 cells as often as its argument says, an even number. bench/run times it against the same work in C.
 #![tactic(auto)]
 
-use rings::Direction;
+use rings::{Direction, MAX_CELLS};
 use rules::{RuleFault, Table, map_ring};
 use std::env;
-
-const CELLS: usize = 2048;
 
 // The ring in `even` after so many steps, with `odd` between: how many of its cells are 1.
 fn ones_after(
@@ -30,9 +28,9 @@ fn run(rt: &HostRuntime) -> anyhow::Result<()> {
         None => 1,
     };
     let rule = Table::elementary(110);
-    let mut even = [0; CELLS];
-    let mut odd = [0; CELLS];
-    even[CELLS - 1] = 1;
+    let mut even = [0; MAX_CELLS];
+    let mut odd = [0; MAX_CELLS];
+    even[MAX_CELLS - 1] = 1;
     let ones = ones_after(&rule, &mut even, &mut odd, steps)?;
     println!(rt; "{ones} ones after {steps} steps")?;
     Ok(())
