@@ -1,59 +1,40 @@
 -- Lemmas on what the top of a floor answers.
-use Rattle.std.proofs.Common.{◌≡◌, ℕ, ◌+◌, ◌-◌, ◌*◌, ◌^◌, ◌≤◌, Bool, true, false, cond, ◌&&◌, ◌⊎◌, List, ℤ, pos, ◌-ℤ◌, neg_ℤ, nat_abs, IfSome, Some, None, Option, Result, sym, refl, ap, ◌∙◌, subst, ap₂, inl, inr, arith, w32, to_z, of_z}
+use Rattle.std.proofs.Common.{◌≡◌, ℕ, ◌+◌, ◌-◌, ◌*◌, ◌^◌, ◌≤◌, Bool, true, false, cond, ◌&&◌, ◌⊎◌, List, length, ℤ, neg_ℤ, ◌≤ℤ◌, Some, None, Ok, Err, Option, Result, sym, refl, ap, ◌∙◌, subst, ap₂, inl, inr, arith}
+use Rattle.std.proofs.lemmas.Bool.{leb-true, and_parts, cond-true}
 use Rattle.std.proofs.lemmas.Int.{ints}
-use Rattle.std.proofs.lemmas.Bool.{leb-true, and_parts, cond-true, cond-false}
 use Rattle.std.specs.Option.{option_map}
 use Rattle.rings.specs.declared.Direction.{Direction}
 use Rattle.rings.specs.declared.Direction.TheVariants.{Forward, Backward}
-use Rattle.rings.specs.Local.{Local, span}
+use Rattle.rings.specs.Integers.{floor_mod}
+use Rattle.rings.specs.Local.{Local, span, width}
 use Rattle.rings.specs.Automaton.{Automaton, toward}
 use Rattle.rings.specs.Transformations.{pack_value, iterate_local, shift_local, mirror_local, pack_local}
 use Rattle.rings.proofs.Transformations.{width-shift, pack_covers}
 use Rattle.rules.specs.declared.fault.RuleFault.{RuleFault}
+use Rattle.rules.specs.declared.fault.RuleFault.TheVariants.{NoInverse}
 use Rattle.rules.specs.Answers.{ends, answer, checked}
-use Rattle.rules.specs.Steps.{value_of}
-use Rattle.rules.proofs.Maps.{Usable}
+use Rattle.rules.specs.Steps.{value_of, Reads}
+use Rattle.rules.specs.Windows.{readable, checked_refused}
+use Rattle.rules.proofs.Maps.{Usable, usable, answer-reads}
 use Rattle.floors.specs.declared.action.Action.{Action}
 use Rattle.floors.specs.declared.action.Action.TheVariants.{Unchanged, Pack, Iterate, Shift, Mirror, Reduce}
-use Rattle.floors.specs.declared.apply.Blocks.{Blocks}
 use Rattle.towers.specs.declared.numbers.Numbers.{Numbers}
 use Rattle.towers.specs.Towers.{Tower}
 use Rattle.towers.specs.Numbers.{numbers_of, Standing}
-use Rattle.floors.specs.Actions.{act_on, shift_ends, pack_ends, shift_numbers, act_numbers, reduced_block, in_range, intervals_fit, within_limits, reduces, fits, floor_or}
-use Rattle.floors.specs.Acting.{LawfulEnds, Packable, acted}
-use Rattle.floors.specs.Asking.{HasWidth, Packing, blocks_answer, blocks_of, interval, along}
-use Rattle.floors.proofs.Arithmetic.{negation_is}
-use Rattle.floors.specs.ActingLemmas.{ends_mapped, standing_acted, workable, packable_shifted}
-use Rattle.floors.proofs.Asking.{usable_top, width_iterated}
-
--- whether the action acts
-
-abbrev numbers_or : Numbers → Option Numbers → Numbers
-numbers_or x None = x
-numbers_or x (Some y) = y
-
--- an action with an answer is in range and fits
-acts : (act : Action) (x y : Numbers) → Some y ≡ acted act x → ((in_range act && fits act x) ≡ true) × (y ≡ act_numbers act x)
-acts act x y = by (in_range act && fits act x) where
-  by : (b : Bool) → Some y ≡ cond b (Some (act_numbers act x)) None → (b ≡ true) × (y ≡ act_numbers act x)
-  by true h = (refl, ap (numbers_or y) h)
-  by false h = let z : ◌≡◌ {A = ℕ} 0 1 = cc in absurd (omega arith)
-
-rests : (act : Action) (x : Numbers) → None ≡ acted act x → (in_range act && fits act x) ≡ false
-rests act x = by (in_range act && fits act x) where
-  by : (b : Bool) → None ≡ cond b (Some (act_numbers act x)) None → b ≡ false
-  by true h = let z : ◌≡◌ {A = ℕ} 0 1 = cc in absurd (omega arith)
-  by false h = refl
-
--- what the top of a tower answers
-abbrev pub top-answer : Direction → List ℕ → Tower → Result ℕ RuleFault
-top-answer d ws t = answer t.top.states (toward d t.top) ws
-
--- an action that does not act leaves the top below
-pub rests_below : (act : Action) (t : Tower) (d : Direction) (ws : List ℕ) (x : Numbers) → x ≡ numbers_of t → None ≡ acted act x → top-answer d ws t ≡ top-answer d ws (floor_or act t)
-rests_below act t d ws x n h = ap (top-answer d ws) (sym (cond-false _ _ _ (rests act (numbers_of t) (h ∙ ap (acted act) n))))
+use Rattle.towers.specs.Standing.{top_lawful}
+use Rattle.floors.specs.Actions.{act_on, shift_ends, act_numbers, reduced_block, in_range, fits, reduces, within_limits, floor_or}
+use Rattle.floors.specs.Acting.{acted}
+use Rattle.floors.specs.Asking.{HasWidth, Packing, interval, packed_numbers}
+use Rattle.floors.specs.ActingLemmas.{ends_mapped, acted_numbers, standing_acted}
+use Rattle.floors.proofs.Asking.{reads}
+use Rattle.floors.proofs.Places.{outcome_is}
 
 -- the local function that an action makes
+
+-- By how much a rotation by s moves the interval of a direction: the inverse rotates back.
+abbrev along : Direction → ℤ → ℤ
+along Forward s = s
+along Backward s = neg_ℤ s
 
 abbrev acted_local : Action → Tower → Direction → Local → Local
 acted_local Unchanged t d l = l
@@ -90,23 +71,50 @@ interval_is : (d : Direction) (t : Tower) → interval d (numbers_of t) ≡ ends
 interval_is Forward t = refl
 interval_is Backward t = refl
 
--- without a local function, none is made, and every answer is the same
-refusal : (p q : ℕ) (o : Option Local) (f : Local → Local) (ws : List ℕ) → None ≡ ends o → answer p o ws ≡ answer q (option_map f o) ws
-refusal p q None f ws h = refl
-refusal p q (Some l) f ws h = let z : ◌≡◌ {A = ℕ} 0 1 = cc in absurd (omega arith)
+-- the local function that an action packs, if it packs
 
--- shifted, a local function answers the same
-answer_shifted : (q : ℕ) (o : Option Local) (s : ℤ) (ws : List ℕ) → answer q o ws ≡ answer q (option_map (shift_local s) o) ws
-answer_shifted q None s ws = refl
-answer_shifted q (Some l) s ws = ap (λ n. checked q n ws (l.value ws)) (sym (width-shift s l))
+abbrev packed_local : Action → Tower → Direction → Local → Local
+packed_local Unchanged t d l = l
+packed_local (Pack m) t d l = l
+packed_local (Iterate u) t d l = l
+packed_local (Shift s) t d l = l
+packed_local Mirror t d l = l
+packed_local Reduce t d l = shift_local (along d (neg_ℤ t.top.forward.lo)) l
 
-value_shifted : (o : Option Local) (s : ℤ) → value_of o ≡ value_of (option_map (shift_local s) o)
-value_shifted None s = refl
-value_shifted (Some l) s = refl
+packed_interval : (act : Action) (t : Tower) (d : Direction) → interval d (packed_numbers act (numbers_of t)) ≡ ends (option_map (packed_local act t d) (toward d t.top))
+packed_interval Reduce t Forward = refl
+packed_interval Reduce t Backward = sym (ends_mapped (shift_local (neg_ℤ (neg_ℤ t.top.forward.lo))) (shift_ends (neg_ℤ (neg_ℤ t.top.forward.lo))) (λ l. refl) t.top.inverse)
+packed_interval Unchanged t d = interval_is d t ∙ ap ends (mapped_same (toward d t.top))
+packed_interval (Pack m) t d = interval_is d t ∙ ap ends (mapped_same (toward d t.top))
+packed_interval (Iterate u) t d = interval_is d t ∙ ap ends (mapped_same (toward d t.top))
+packed_interval (Shift s) t d = interval_is d t ∙ ap ends (mapped_same (toward d t.top))
+packed_interval Mirror t d = interval_is d t ∙ ap ends (mapped_same (toward d t.top))
 
-width_shifted : (o : Option Local) (s : ℤ) (w : ℕ) → HasWidth (option_map (shift_local s) o) w → HasWidth o w
-width_shifted None s w h = absurd h
-width_shifted (Some l) s w h = h ∙ width-shift s l
+-- it has the values, the width and the order of the one below
+
+same_value : (act : Action) (t : Tower) (d : Direction) (l : Local) → (packed_local act t d l).value ≡ l.value
+same_value Unchanged t d l = refl
+same_value (Pack m) t d l = refl
+same_value (Iterate u) t d l = refl
+same_value (Shift s) t d l = refl
+same_value Mirror t d l = refl
+same_value Reduce t d l = refl
+
+same_width : (act : Action) (t : Tower) (d : Direction) (l : Local) → width (packed_local act t d l) ≡ width l
+same_width Unchanged t d l = refl
+same_width (Pack m) t d l = refl
+same_width (Iterate u) t d l = refl
+same_width (Shift s) t d l = refl
+same_width Mirror t d l = refl
+same_width Reduce t d l = width-shift (along d (neg_ℤ t.top.forward.lo)) l
+
+still_ordered : (act : Action) (t : Tower) (d : Direction) (l : Local) → l.lo ≤ℤ l.hi → (packed_local act t d l).lo ≤ℤ (packed_local act t d l).hi
+still_ordered Unchanged t d l h = h
+still_ordered (Pack m) t d l h = h
+still_ordered (Iterate u) t d l h = h
+still_ordered (Shift s) t d l h = h
+still_ordered Mirror t d l h = h
+still_ordered Reduce t d l h = omega (arith, ints, h)
 
 -- ends
 
@@ -114,215 +122,218 @@ abbrev ends_or : ℤ × ℤ → Option (ℤ × ℤ) → ℤ × ℤ
 ends_or e None = e
 ends_or e (Some f) = f
 
-width_of : (o : Option Local) (e : ℤ × ℤ) → Some e ≡ ends o → HasWidth o (span e.0 e.1)
-width_of None e h = let z : ◌≡◌ {A = ℕ} 0 1 = cc in absurd (omega arith)
-width_of (Some l) e h = ap (λ f. span f.0 f.1) (ap (ends_or e) h)
+ends_are : (l : Local) (e : ℤ × ℤ) → Some e ≡ ends (Some l) → (l.lo, l.hi) ≡ e
+ends_are l e h = sym (ap (ends_or e) h)
 
-width_narrow : (q : ℕ) (o : Option Local) (w : ℕ) → Usable q o → HasWidth o w → w ≤ 64
-width_narrow q None w u h = absurd h
-width_narrow q (Some l) w u h = omega (arith, h, u.1.narrow)
+width_below : (act : Action) (t : Tower) (d : Direction) (o : Option Local) (e : ℤ × ℤ) → Some e ≡ ends (option_map (packed_local act t d) o) → HasWidth o (span e.0 e.1)
+width_below act t d None e h = let z : ◌≡◌ {A = ℕ} 0 1 = cc in absurd (omega arith)
+width_below act t d (Some l) e h = ap (λ f. span f.0 f.1) (sym (ends_are (packed_local act t d l) e h)) ∙ same_width act t d l
 
-lawful_interval : (d : Direction) (x : Numbers) (e : ℤ × ℤ) → Packable x → Some e ≡ interval d x → LawfulEnds e.0 e.1
-lawful_interval Forward x e p h = subst (λ f. LawfulEnds f.0 f.1) (sym (ap (ends_or e) h)) p.ends
-lawful_interval Backward x e p h = by x.inverse p.inverse h where
-  by : (o : Option (ℤ × ℤ)) → IfSome o (λ f. LawfulEnds f.0 f.1) → Some e ≡ o → LawfulEnds e.0 e.1
-  by None l k = let z : ◌≡◌ {A = ℕ} 0 1 = cc in absurd (omega arith)
-  by (Some f) l k = subst (λ f. LawfulEnds f.0 f.1) (sym (ap (ends_or e) k)) l
+-- windows
 
-interval_shifted : (d : Direction) (s : ℤ) (x : Numbers) → option_map (shift_ends (along d s)) (interval d x) ≡ interval d (shift_numbers s x)
-interval_shifted Forward s x = refl
-interval_shifted Backward s x = refl
+-- those of an interval with the ends e
+reads_window : (q : ℕ) (o : Option Local) (e : ℤ × ℤ) (ws : List ℕ) → Some e ≡ ends o → Ok tt ≡ checked {X = Unit {0}} q (span e.0 e.1) ws tt → Reads q o ws
+reads_window q None e ws h c = let z : ◌≡◌ {A = ℕ} 0 1 = cc in absurd (omega arith)
+reads_window q (Some l) e ws h c = let r = readable q (span e.0 e.1) ws c in (r.len ∙ ap (λ f. span f.0 f.1) (sym (ends_are l e h)), r.codes)
 
--- blocks
+refused_window : (q : ℕ) (o : Option Local) (e : ℤ × ℤ) (ws : List ℕ) (f : RuleFault) → Some e ≡ ends o → Err f ≡ checked {X = Unit {0}} q (span e.0 e.1) ws tt → Err f ≡ answer q o ws
+refused_window q None e ws f h c = let z : ◌≡◌ {A = ℕ} 0 1 = cc in absurd (omega arith)
+refused_window q (Some l) e ws f h c = checked_refused q (span e.0 e.1) ws f (l.value ws) c ∙ ap (λ g. checked q (span g.0 g.1) ws (l.value ws)) (sym (ends_are l e h))
 
--- the windows of w cells lie on the packed cells
-covers : (m : ℕ) (e : ℤ × ℤ) (b : Blocks) → b ≡ blocks_of b.states m b.total e → 1 ≤ m → LawfulEnds e.0 e.1 → b.block - 1 + b.skip + b.width ≤ b.cells * b.block
-covers m e b h some lawful =
-    subst (λ c. c.block - 1 + c.skip + c.width ≤ c.cells * c.block) (sym h) (pack_covers 1 m (record { lo = e.0; hi = e.1; value = λ ws. 0 }) (omega arith) lawful.ordered)
+short_window : (q : ℕ) (o : Option Local) (ws : List ℕ) → Usable q o → Reads q o ws → length ws ≤ 64
+short_window q None ws u r = absurd r
+short_window q (Some l) ws u r = omega (arith, r.0, u.1.narrow)
 
-packs_narrow : (p q m : ℕ) (o : Option Local) (e : ℤ × ℤ) → Some e ≡ ends o → Usable p (option_map (pack_local q m) o) → span (pack_ends m e).0 (pack_ends m e).1 ≤ 64
-packs_narrow p q m None e h u = let z : ◌≡◌ {A = ℕ} 0 1 = cc in absurd (omega arith)
-packs_narrow p q m (Some l) e h u = subst (λ f. span (pack_ends m f).0 (pack_ends m f).1 ≤ 64) (sym (ap (ends_or e) h)) u.1.narrow
+no_answer : (q : ℕ) (o : Option Local) (f h : Local → Local) (ws : List ℕ) → None ≡ ends (option_map f o) → Err NoInverse ≡ answer q (option_map h o) ws
+no_answer q None f h ws e = refl
+no_answer q (Some l) f h ws e = let z : ◌≡◌ {A = ℕ} 0 1 = cc in absurd (omega arith)
 
-packing_of : (a : Automaton) (d : Direction) (o : Option Local) (p m : ℕ) (e : ℤ × ℤ) (b : Blocks) → b ≡ blocks_of a.states m (a.states ^ m) e → Some e ≡ ends o → LawfulEnds e.0 e.1 → 1 ≤ m → m ≤ 16
-    → HasWidth (toward d a) (span e.0 e.1) → a.states ^ m ≤ 16777216 → Usable p (option_map (pack_local a.states m) o) → Packing a d b
-packing_of a d o p m e b is h lawful some short wide few u =
-    let c = blocks_of a.states m (a.states ^ m) e in
-    subst (Packing a d) (sym is) (record {
-      same = refl;
-      width = wide;
-      inside = covers m e c refl some lawful;
-      power = refl;
-      few = few;
-      some = some;
-      short = short;
-      fits = packs_narrow p a.states m o e h u;
-    })
+-- a shift keeps them, and their values
+reads_shifted : (q : ℕ) (o : Option Local) (s : ℤ) (ws : List ℕ) → Reads q (option_map (shift_local s) o) ws → Reads q o ws
+reads_shifted q None s ws r = absurd r
+reads_shifted q (Some l) s ws r = (r.0 ∙ width-shift s l, r.1)
 
--- the answer on blocks is that of the packed local function
-blocks_answered : (o o' : Option Local) (q m total : ℕ) (e : ℤ × ℤ) (ws : List ℕ) → value_of o ≡ value_of o' → Some e ≡ ends o' → blocks_answer o (blocks_of q m total e) ws ≡ answer total (option_map (pack_local q m) o') ws
-blocks_answered o None q m total e ws s h = let z : ◌≡◌ {A = ℕ} 0 1 = cc in absurd (omega arith)
-blocks_answered o (Some l) q m total e ws s h =
-    ap (λ f. checked total (span (pack_ends m e).0 (pack_ends m e).1) ws (pack_value q m f (blocks_of q m total e).skip (span e.0 e.1) ws)) s ∙
-    ap (λ f. blocks_answer (Some l) (blocks_of q m total f) ws) (ap (ends_or e) h)
+value_shifted : (o : Option Local) (s : ℤ) (ws : List ℕ) → value_of o ws ≡ value_of (option_map (shift_local s) o) ws
+value_shifted None s ws = refl
+value_shifted (Some l) s ws = refl
 
--- small numbers, as the code has them
+-- blocks of m cells of the local function h l that is packed
 
-unwrapped : (z : ℤ) → nat_abs z ≤ 128 → to_z w32 (of_z w32 z) ≡ z
-unwrapped z h = omega (arith, ints)
+packs : (p q m : ℕ) (o : Option Local) (h : Local → Local) (e : ℤ × ℤ) (ws : List ℕ) → 1 ≤ m → ((l : Local) → l.lo ≤ℤ l.hi → (h l).lo ≤ℤ (h l).hi) → Usable q o → Some e ≡ ends (option_map h o)
+    → Reads p (option_map (pack_local q m) (option_map h o)) ws → q ^ m ≤ 16777216 → length ws ≤ 64 → Packing q m e.0 (span e.0 e.1) (length ws)
+packs p q m None h e ws some ordered u k r few short = absurd r
+packs p q m (Some l) h e ws some ordered u k r few short = record {
+  inside = subst (λ f. m - 1 + floor_mod f.0 m + span f.0 f.1 ≤ length ws * m) (ends_are (h l) e k) (omega (arith, pack_covers q m (h l) some (ordered l u.0.ordered), ap (λ n. n * m) r.0));
+  few = few;
+  fits = short;
+}
 
-small_ends : (lo hi : ℤ) → LawfulEnds lo hi → (nat_abs lo ≤ 128) × (nat_abs hi ≤ 128)
-small_ends lo hi l = (omega (arith, ints, l.low, l.ordered, l.high), omega (arith, ints, l.low, l.ordered, l.high))
+value_packed : (q m : ℕ) (o : Option Local) (h : Local → Local) (e : ℤ × ℤ) (ws : List ℕ) → ((l : Local) → (h l).value ≡ l.value) → Some e ≡ ends (option_map h o)
+    → pack_value q m (value_of o) (floor_mod e.0 m) (span e.0 e.1) ws ≡ value_of (option_map (pack_local q m) (option_map h o)) ws
+value_packed q m None h e ws same k = let z : ◌≡◌ {A = ℕ} 0 1 = cc in absurd (omega arith)
+value_packed q m (Some l) h e ws same k =
+    ap (λ v. pack_value q m v (floor_mod e.0 m) (span e.0 e.1) ws) (sym (same l)) ∙ ap (λ f. pack_value q m (h l).value (floor_mod f.0 m) (span f.0 f.1) ws) (sym (ends_are (h l) e k))
 
 -- a floor whose action acts
 
--- the action makes the numbers y of the numbers x of the tower below
-pub record Acts (t : Tower) (act : Action) (x y : Numbers) : Type 0 where
+-- what the top of a tower answers
+abbrev pub top-answer : Direction → List ℕ → Tower → Result ℕ RuleFault
+top-answer d ws t = answer t.top.states (toward d t.top) ws
+
+-- the action makes the numbers y of the numbers x of the tower below, whose top is what it means as a rule
+pub record Acts (a : Automaton) (t : Tower) (act : Action) (x y : Numbers) : Type 0 where
+  pub top : a ≡ t.top
   pub standing : Standing t
   pub same : x ≡ numbers_of t
   pub acts : Some y ≡ acted act x
 
-module _ {t : Tower} {act : Action} {x y : Numbers} (floor : Acts t act x y) (d : Direction) where
-  told : ((in_range act && fits act (numbers_of t)) ≡ true) × (y ≡ act_numbers act (numbers_of t))
-  told = acts act (numbers_of t) y (floor.acts ∙ ap (acted act) floor.same)
+-- the local function of its top
+abbrev top_of : Direction → Action → Tower → Option Local
+top_of d act t = toward d (act_on act t).top
 
-  acted-answer : (ws : List ℕ) → answer (act_on act t).top.states (option_map (acted_local act t d) (toward d t.top)) ws ≡ top-answer d ws (floor_or act t)
-  acted-answer ws = ap (λ o. answer (act_on act t).top.states o ws) (sym (toward-acted act t d)) ∙ ap (top-answer d ws) (sym (cond-true _ _ _ told.0))
+module _ {a : Automaton} {t : Tower} {act : Action} {x y : Numbers} (floor : Acts a t act x y) (d : Direction) where
+  fit : (in_range act && fits act (numbers_of t)) ≡ true
+  fit = ap (λ z. in_range act && fits act z) (sym floor.same) ∙ (outcome_is act x y floor.acts).0
 
-  acted_standing : Standing (act_on act t)
-  acted_standing = standing_acted act t floor.standing told.0
+  standing : Standing (act_on act t)
+  standing = standing_acted act t floor.standing fit
 
-  acted_usable : Usable (act_on act t).top.states (option_map (acted_local act t d) (toward d t.top))
-  acted_usable = subst (Usable (act_on act t).top.states) (toward-acted act t d) (usable_top (act_on act t) d acted_standing)
+  usable_below : Usable x.states (toward d a)
+  usable_below = subst (λ q. Usable q (toward d a)) (sym (ap (λ z. z.states) floor.same)) (subst (λ b. Usable t.top.states (toward d b)) (sym floor.top) (usable d t.top (top_lawful t floor.standing)))
 
-  -- without an inverse below, the floor has none
-  pub refuses : (ws : List ℕ) → None ≡ interval d x → top-answer d ws t ≡ top-answer d ws (floor_or act t)
-  refuses ws h = refusal t.top.states (act_on act t).top.states (toward d t.top) (acted_local act t d) ws (h ∙ ap (interval d) floor.same ∙ interval_is d t) ∙ acted-answer ws
+  numbers_above : y ≡ numbers_of (act_on act t)
+  numbers_above = (outcome_is act x y floor.acts).1 ∙ ap (act_numbers act) floor.same ∙ sym (acted_numbers act t)
 
--- the same, with another name for the action
-named : {t : Tower} {act other : Action} {x y : Numbers} → Acts t act x y → act ≡ other → Acts t other x y
-named {t = t} {x = x} {y = y} floor is = subst (λ a. Acts t a x y) is floor
+  interval_above : interval d y ≡ ends (top_of d act t)
+  interval_above = ap (interval d) numbers_above ∙ interval_is d (act_on act t)
 
-named_answer : {t : Tower} {act other : Action} {x y : Numbers} → Acts t act x y → act ≡ other → (d : Direction) (ws : List ℕ)
-    → answer (act_on other t).top.states (option_map (acted_local other t d) (toward d t.top)) ws ≡ top-answer d ws (floor_or act t)
-named_answer {t = t} floor is d ws = acted-answer (named floor is) d ws ∙ ap (λ a. top-answer d ws (floor_or a t)) (sym is)
+  interval_below : interval d (packed_numbers act x) ≡ ends (option_map (packed_local act t d) (toward d a))
+  interval_below = ap (λ z. interval d (packed_numbers act z)) floor.same ∙ packed_interval act t d ∙ ap (λ b. ends (option_map (packed_local act t d) (toward d b))) (sym floor.top)
 
--- the actions, one after the other
+  above_is : top_of d act t ≡ option_map (acted_local act t d) (toward d a)
+  above_is = toward-acted act t d ∙ ap (λ b. option_map (acted_local act t d) (toward d b)) (sym floor.top)
 
-module _ {t : Tower} {act : Action} {x y : Numbers} (floor : Acts t act x y) (d : Direction) where
-  abbrev below : Option Local
-  below = toward d t.top
+  told : (ws : List ℕ) → answer (act_on act t).top.states (top_of d act t) ws ≡ top-answer d ws (floor_or act t)
+  told ws = ap (top-answer d ws) (sym (cond-true _ _ _ fit))
 
-  -- nothing, or a shift: the value at a window stays
-  pub keeps : (ws : List ℕ) → (act ≡ Unchanged) ⊎ ((s : ℤ) × (act ≡ Shift s)) → top-answer d ws t ≡ top-answer d ws (floor_or act t)
-  keeps ws (inl is) = ap (λ o. answer t.top.states o ws) (mapped_same below) ∙ named_answer floor is d ws
-  keeps ws (inr (s, is)) = answer_shifted t.top.states below (along d s) ws ∙ named_answer floor is d ws
+  -- the facts of the rule below, in the direction d
+  pub states_below : x.states ≡ a.states
+  states_below = ap (λ z. z.states) floor.same ∙ ap (λ b. b.states) (sym floor.top)
 
-  pub iterates : (u : ℕ) → act ≡ Iterate u → (ws : List ℕ) → answer x.states (option_map (iterate_local u) below) ws ≡ top-answer d ws (floor_or act t)
-  iterates u is ws = ap (λ z. answer z.states (option_map (iterate_local u) below) ws) floor.same ∙ named_answer floor is d ws
+  pub wide_below : (e : ℤ × ℤ) → Some e ≡ interval d (packed_numbers act x) → HasWidth (toward d a) (span e.0 e.1)
+  wide_below e h = width_below act t d (toward d a) e (h ∙ interval_below)
 
-  pub mirrors : act ≡ Mirror → (ws : List ℕ) → answer x.states (option_map mirror_local below) ws ≡ top-answer d ws (floor_or act t)
-  mirrors is ws = ap (λ z. answer z.states (option_map mirror_local below) ws) floor.same ∙ named_answer floor is d ws
+  -- refusals
+  pub refuses_below : (ws : List ℕ) → None ≡ interval d (packed_numbers act x) → Err NoInverse ≡ top-answer d ws (floor_or act t)
+  refuses_below ws h =
+      no_answer (act_on act t).top.states (toward d a) (packed_local act t d) (acted_local act t d) ws (h ∙ interval_below) ∙ ap (λ o. answer (act_on act t).top.states o ws) (sym above_is) ∙ told ws
 
-  -- the start of the interval is small
-  pub small_start : nat_abs x.lo ≤ 128
-  small_start = subst (λ z. nat_abs z.lo ≤ 128) (sym floor.same) (small_ends t.top.forward.lo t.top.forward.hi (workable t floor.standing).packable.ends).0
+  pub refuses_window : (e : ℤ × ℤ) (ws : List ℕ) (f : RuleFault) → Some e ≡ interval d y → Err f ≡ checked {X = Unit {0}} y.states (span e.0 e.1) ws tt → Err f ≡ top-answer d ws (floor_or act t)
+  refuses_window e ws f h c =
+      refused_window (act_on act t).top.states (top_of d act t) e ws f (h ∙ interval_above) (c ∙ ap (λ z. checked z.states (span e.0 e.1) ws tt) numbers_above) ∙ told ws
 
-  -- the interval below has the ends e
-  module _ {e : ℤ × ℤ} (h : Some e ≡ interval d x) where
-    found : Some e ≡ interval d (numbers_of t)
-    found = h ∙ ap (interval d) floor.same
+-- a window of the top, whose interval has the ends e
+pub record Window (a : Automaton) (t : Tower) (act : Action) (x y : Numbers) (d : Direction) (ws : List ℕ) (e : ℤ × ℤ) : Type 0 where
+  pub floor : Acts a t act x y
+  pub found : Some e ≡ interval d y
+  pub passed : Ok tt ≡ checked {X = Unit {0}} y.states (span e.0 e.1) ws tt
 
-    found-ends : Some e ≡ ends below
-    found-ends = found ∙ interval_is d t
+module _ {a : Automaton} {t : Tower} {act : Action} {x y : Numbers} {d : Direction} {ws : List ℕ} {e : ℤ × ℤ} (w : Window a t act x y d ws e) where
+  reads_above : Reads (act_on act t).top.states (top_of d act t) ws
+  reads_above = reads_window (act_on act t).top.states (top_of d act t) e ws (w.found ∙ interval_above w.floor d) (w.passed ∙ ap (λ z. checked z.states (span e.0 e.1) ws tt) (numbers_above w.floor d))
 
-    pub lawful_found : LawfulEnds e.0 e.1
-    lawful_found = lawful_interval d (numbers_of t) e (workable t floor.standing).packable found
+  pub short_above : length ws ≤ 64
+  short_above = short_window (act_on act t).top.states (top_of d act t) ws (usable d (act_on act t).top (top_lawful (act_on act t) (standing w.floor d))) reads_above
 
-    -- its windows
-    pub width-found : (w : ℕ) → w ≡ span (to_z w32 (of_z w32 e.0)) (to_z w32 (of_z w32 e.1)) → HasWidth below w × (w ≤ 64)
-    width-found w v =
-        let small = small_ends e.0 e.1 lawful_found in
-        let is : w ≡ span e.0 e.1 = v ∙ ap₂ span (unwrapped e.0 small.0) (unwrapped e.1 small.1) in
-        let wide : HasWidth below w = subst (HasWidth below) (sym is) (width_of below e found-ends) in
-        (wide, width_narrow t.top.states below w (usable_top t d floor.standing) wide)
+  answers : (v : ℕ) → v ≡ value_of (top_of d act t) ws → Ok v ≡ top-answer d ws (floor_or act t)
+  answers v is = ap Ok is ∙ sym (answer-reads (act_on act t).top.states (top_of d act t) ws reads_above) ∙ told w.floor d ws
 
-    -- the windows of u steps
-    pub iterate-narrow : (u w : ℕ) → act ≡ Iterate u → HasWidth below w → u * (w - 1) + 1 ≤ 64
-    iterate-narrow u w is wide =
-        width_narrow t.top.states (option_map (iterate_local u) below) (u * (w - 1) + 1) (acted_usable (named floor is) d) (width_iterated t.top.states below w u (usable_top t d floor.standing) wide)
+  -- with another name for the action
+  module _ (other : Action) (is : act ≡ other) where
+    above_as : top_of d act t ≡ option_map (acted_local other t d) (toward d a)
+    above_as = above_is w.floor d ∙ ap (λ b. option_map (acted_local b t d) (toward d a)) is
 
-    -- packing m cells
-    module _ {m : ℕ} (is : act ≡ Pack m) where
+    reads_as : Reads (act_on other t).top.states (option_map (acted_local other t d) (toward d a)) ws
+    reads_as = subst (λ b. Reads (act_on b t).top.states (option_map (acted_local other t d) (toward d a)) ws) is (subst (λ o. Reads (act_on act t).top.states o ws) above_as reads_above)
+
+    pub answers_as : (v : ℕ) → v ≡ value_of (option_map (acted_local other t d) (toward d a)) ws → Ok v ≡ top-answer d ws (floor_or act t)
+    answers_as v e = answers v (e ∙ ap (λ o. value_of o ws) (sym above_as))
+
+    -- where the states stay
+    reads_same : (act_on other t).top.states ≡ t.top.states → Reads x.states (option_map (acted_local other t d) (toward d a)) ws
+    reads_same e = subst (λ q. Reads q (option_map (acted_local other t d) (toward d a)) ws) (e ∙ sym (ap (λ z. z.states) w.floor.same)) reads_as
+
+  -- nothing, or a shift
+  pub reads_kept : (act ≡ Unchanged) ⊎ ((s : ℤ) × (act ≡ Shift s)) → Reads x.states (toward d a) ws
+  reads_kept (inl is) = subst (λ o. Reads x.states o ws) (sym (mapped_same (toward d a))) (reads_same Unchanged is refl)
+  reads_kept (inr (s, is)) = reads_shifted x.states (toward d a) (along d s) ws (reads_same (Shift s) is refl)
+
+  pub answers_kept : (act ≡ Unchanged) ⊎ ((s : ℤ) × (act ≡ Shift s)) → (v : ℕ) → v ≡ value_of (toward d a) ws → Ok v ≡ top-answer d ws (floor_or act t)
+  answers_kept (inl is) v e = answers_as Unchanged is v (e ∙ ap (λ o. value_of o ws) (mapped_same (toward d a)))
+  answers_kept (inr (s, is)) v e = answers_as (Shift s) is v (e ∙ value_shifted (toward d a) (along d s) ws)
+
+  -- many steps, and a mirror
+  pub reads_iterated : (u : ℕ) → act ≡ Iterate u → Reads x.states (option_map (iterate_local u) (toward d a)) ws
+  reads_iterated u is = reads_same (Iterate u) is refl
+
+  pub reads_mirrored : act ≡ Mirror → Reads x.states (option_map mirror_local (toward d a)) ws
+  reads_mirrored is = reads_same Mirror is refl
+
+  -- blocks of m cells, over an interval with the ends f
+  module _ (f : ℤ × ℤ) (k : Some f ≡ interval d (packed_numbers act x)) (m : ℕ) where
+    abbrev packed : Option Local
+    packed = option_map (pack_local x.states m) (option_map (packed_local act t d) (toward d a))
+
+    module _ (some : 1 ≤ m) (is : top_of d act t ≡ packed) (states : (act_on act t).top.states ≡ x.states ^ m) where
+      asks : Packing x.states m f.0 (span f.0 f.1) (length ws)
+      asks = packs (act_on act t).top.states x.states m (toward d a) (packed_local act t d) f ws some (still_ordered act t d) (usable_below w.floor d) (k ∙ interval_below w.floor d)
+          (subst (λ o. Reads (act_on act t).top.states o ws) is reads_above) (omega (arith, states, (standing w.floor d).top.few)) short_above
+
+      answers_packed : (v : ℕ) → v ≡ pack_value x.states m (value_of (toward d a)) (floor_mod f.0 m) (span f.0 f.1) ws → Ok v ≡ top-answer d ws (floor_or act t)
+      answers_packed v e = answers v (e ∙ value_packed x.states m (toward d a) (packed_local act t d) f ws (same_value act t d) (k ∙ interval_below w.floor d) ∙ ap (λ o. value_of o ws) (sym is))
+
+    -- packing
+    module _ (is : act ≡ Pack m) where
       pub pack_range : (1 ≤ m) × (m ≤ 16)
-      pack_range = let p = and_parts _ _ (and_parts _ _ (told (named floor is) d).0).0 in (leb-true _ _ p.0, leb-true _ _ p.1)
+      pack_range = let p = and_parts _ _ (and_parts _ _ (subst (λ b. (in_range b && fits b (numbers_of t)) ≡ true) is (fit w.floor d))).0 in (leb-true _ _ p.0, leb-true _ _ p.1)
 
-      module _ {b : Blocks} (made : b ≡ blocks_of x.states m y.states e) where
-        pack-blocks : b ≡ blocks_of t.top.states m (t.top.states ^ m) e
-        pack-blocks = made ∙ ap₂ (λ (q r : ℕ). blocks_of q m r e) (ap (λ z. z.states) floor.same) (ap (λ z. z.states) (told (named floor is) d).1)
+      pack_above : top_of d act t ≡ packed
+      pack_above =
+          above_as (Pack m) is ∙ ap (λ z. option_map (pack_local z.states m) (toward d a)) (sym w.floor.same) ∙
+          ap (option_map (pack_local x.states m)) (mapped_same (toward d a) ∙ ap (λ b. option_map (packed_local b t d) (toward d a)) (sym is))
 
-        pub pack_asks : Packing t.top d b
-        pack_asks =
-            packing_of t.top d below (t.top.states ^ m) m e b pack-blocks found-ends lawful_found pack_range.0 pack_range.1 (width_of below e found-ends)
-            (acted_standing (named floor is) d).top.few (acted_usable (named floor is) d)
+      pack_states : (act_on act t).top.states ≡ x.states ^ m
+      pack_states = ap (λ b. (act_on b t).top.states) is ∙ ap (λ z. z.states ^ m) (sym w.floor.same)
 
-        pub packs : (ws : List ℕ) → blocks_answer below b ws ≡ top-answer d ws (floor_or act t)
-        packs ws =
-            ap (λ c. blocks_answer below c ws) pack-blocks ∙ blocks_answered below below t.top.states m (t.top.states ^ m) e ws refl found-ends ∙ named_answer floor is d ws
+      pub pack_asks : Packing x.states m f.0 (span f.0 f.1) (length ws)
+      pack_asks = asks pack_range.0 pack_above pack_states
 
-    -- reduction: the interval is shifted by a and then has the ends f
-    module _ (is : act ≡ Reduce) {a : ℤ} {f : ℤ × ℤ} (shift : a ≡ along d (to_z w32 (of_z w32 (pos 0 -ℤ to_z w32 (of_z w32 x.lo))))) (small : nat_abs a ≤ 128) (moved : f ≡ shift_ends (to_z w32 (of_z w32 a)) e) where
-      abbrev start : ℤ
-      start = neg_ℤ t.top.forward.lo
+      pub answers_pack : (v : ℕ) → v ≡ pack_value x.states m (value_of (toward d a)) (floor_mod f.0 m) (span f.0 f.1) ws → Ok v ≡ top-answer d ws (floor_or act t)
+      answers_pack = answers_packed pack_range.0 pack_above pack_states
 
-      abbrev count : ℕ
-      count = reduced_block (numbers_of t)
+    -- reduction
+    module _ (is : act ≡ Reduce) (block : m ≡ reduced_block x) where
+      count : m ≡ reduced_block (numbers_of t)
+      count = block ∙ ap reduced_block w.floor.same
 
-      abbrev shifted : Option Local
-      shifted = option_map (shift_local (along d start)) below
-
-      moved_is : f ≡ shift_ends (along d start) e
-      moved_is = moved ∙ ap (λ z. shift_ends z e) (unwrapped a small ∙ shift ∙ ap (along d) (negation_is x.lo small_start) ∙ ap (λ z. along d (neg_ℤ z.lo)) floor.same)
-
-      moved_ends : Some f ≡ ends shifted
-      moved_ends = ap Some moved_is ∙ ap (option_map (shift_ends (along d start))) found-ends ∙ sym (ends_mapped (shift_local (along d start)) (shift_ends (along d start)) (λ l. refl) below)
-
-      fit : (count ≤ 16) × (intervals_fit (shift_numbers start (numbers_of t)) ≡ true)
-      fit =
+      pub reduce_range : (1 ≤ m) × (m ≤ 16)
+      reduce_range =
           let within = within_limits (act_numbers Reduce (numbers_of t)) in
-          let p = and_parts _ _ (and_parts (reduces Reduce (numbers_of t)) within (and_parts (in_range Reduce) (fits Reduce (numbers_of t)) (told (named floor is) d).0).1).0 in
-          (leb-true _ _ p.0, p.1)
+          let p = and_parts (reduces Reduce (numbers_of t)) within (and_parts (in_range Reduce) (fits Reduce (numbers_of t)) (subst (λ b. (in_range b && fits b (numbers_of t)) ≡ true) is (fit w.floor d))).1 in
+          let few : reduced_block (numbers_of t) ≤ 16 = leb-true _ _ (and_parts _ _ p.0).0 in
+          (omega (arith, count), omega (arith, count))
 
-      pub lawful_moved : LawfulEnds f.0 f.1
-      lawful_moved =
-          let p = packable_shifted start (numbers_of t) (shift_numbers start (numbers_of t)) (workable t floor.standing).packable refl fit.1 in
-          lawful_interval d (shift_numbers start (numbers_of t)) f p (ap Some moved_is ∙ ap (option_map (shift_ends (along d start))) found ∙ interval_shifted d start (numbers_of t))
+      reduce_above : top_of d act t ≡ packed
+      reduce_above =
+          above_as Reduce is ∙ sym (mapped_twice (pack_local t.top.states (reduced_block (numbers_of t))) (packed_local Reduce t d) (toward d a)) ∙
+          ap₂ (λ (q n : ℕ). option_map (pack_local q n) (option_map (packed_local Reduce t d) (toward d a))) (ap (λ z. z.states) (sym w.floor.same)) (sym count) ∙
+          ap (λ b. option_map (pack_local x.states m) (option_map (packed_local b t d) (toward d a))) (sym is)
 
-      -- blocks of m cells
-      module _ {m : ℕ} (block : m ≡ reduced_block x) where
-        count_is : m ≡ count
-        count_is = block ∙ ap reduced_block floor.same
+      reduce_states : (act_on act t).top.states ≡ x.states ^ m
+      reduce_states = ap (λ b. (act_on b t).top.states) is ∙ ap₂ (λ (q n : ℕ). q ^ n) (ap (λ z. z.states) (sym w.floor.same)) (sym count)
 
-        pub reduce_range : (1 ≤ m) × (m ≤ 16)
-        reduce_range = (omega (arith, count_is), omega (arith, count_is, fit.0))
+      pub reduce_asks : Packing x.states m f.0 (span f.0 f.1) (length ws)
+      reduce_asks = asks reduce_range.0 reduce_above reduce_states
 
-        twice : option_map (pack_local t.top.states count) shifted ≡ option_map (acted_local Reduce t d) below
-        twice = mapped_twice (pack_local t.top.states count) (shift_local (along d start)) below
-
-        module _ {b : Blocks} (made : b ≡ blocks_of x.states m y.states f) where
-          reduce_blocks : b ≡ blocks_of t.top.states count (t.top.states ^ count) f
-          reduce_blocks =
-              made ∙ ap (λ k. blocks_of x.states k y.states f) count_is ∙
-              ap₂ (λ (q r : ℕ). blocks_of q count r f) (ap (λ z. z.states) floor.same) (ap (λ z. z.states) (told (named floor is) d).1)
-
-          pub reduce_asks : Packing t.top d b
-          reduce_asks =
-              packing_of t.top d shifted (t.top.states ^ count) count f b reduce_blocks moved_ends lawful_moved (omega arith) fit.0
-              (width_shifted below (along d start) (span f.0 f.1) (width_of shifted f moved_ends)) (acted_standing (named floor is) d).top.few
-              (subst (Usable (t.top.states ^ count)) (sym twice) (acted_usable (named floor is) d))
-
-          pub reduces_to : (ws : List ℕ) → blocks_answer below b ws ≡ top-answer d ws (floor_or act t)
-          reduces_to ws =
-              ap (λ c. blocks_answer below c ws) reduce_blocks ∙
-              blocks_answered below shifted t.top.states count (t.top.states ^ count) f ws (value_shifted below (along d start)) moved_ends ∙
-              ap (λ o. answer (t.top.states ^ count) o ws) twice ∙ named_answer floor is d ws
+      pub answers_reduce : (v : ℕ) → v ≡ pack_value x.states m (value_of (toward d a)) (floor_mod f.0 m) (span f.0 f.1) ws → Ok v ≡ top-answer d ws (floor_or act t)
+      answers_reduce = answers_packed reduce_range.0 reduce_above reduce_states

@@ -1,7 +1,8 @@
 -- Lemmas on the arithmetic of the code: products, sums and negations that fit their type, and quotients and remainders.
-use Rattle.std.proofs.Common.{◌≡◌, ℕ, ◌+◌, ◌*◌, ◌^◌, ◌<◌, ◌≤◌, ℤ, pos, negsuc, ◌+ℤ◌, ◌-ℤ◌, ◌*ℤ◌, neg_ℤ, nat_abs, refl, ◌∙◌, ap₂, mul-le-mul, arith, w32, SFits, to_z, of_z, rules}
+use Rattle.std.proofs.Common.{◌≡◌, ℕ, Bool, true, false, ap, ◌+◌, ◌*◌, ◌^◌, ◌<◌, ◌≤◌, ℤ, pos, negsuc, ◌+ℤ◌, ◌-ℤ◌, ◌*ℤ◌, neg_ℤ, nat_abs, refl, ◌∙◌, ap₂, mul-le-mul, arith, w32, SFits, to_z, of_z, rules}
 use Rattle.std.proofs.lemmas.Int.{ints, to_z-of_z, to_z_pos}
 use Rattle.std.specs.Int.{int_div_euclid, int_rem_euclid}
+use Rattle.towers.specs.Towers.{signed}
 use Rattle.rings.specs.Integers.{floor_div, floor_mod}
 
 -- products
@@ -33,6 +34,20 @@ module _ (x y a b : ℤ) (e : a ≡ x) (f : b ≡ y) (small : nat_abs x + nat_ab
 
   pub sum_is : to_z w32 (of_z w32 (a +ℤ b)) ≡ x +ℤ y
   sum_is = to_z-of_z w32 (a +ℤ b) sum_fits ∙ ap₂ (λ (m n : ℤ). m +ℤ n) e f
+
+-- the sign of a tower times a number of cells, as the code forms it
+module _ (v : Bool) (sign s : ℤ) (e : sign ≡ signed v (pos 1)) (small : nat_abs s ≤ 128) where
+  pub turn_is : to_z w32 (of_z w32 sign) *ℤ to_z w32 (of_z w32 s) ≡ signed v s
+  turn_is = ap (λ z. to_z w32 (of_z w32 z) *ℤ to_z w32 (of_z w32 s)) e ∙ by v where
+    by : (b : Bool) → to_z w32 (of_z w32 (signed b (pos 1))) *ℤ to_z w32 (of_z w32 s) ≡ signed b s
+    by true = omega (arith, ints)
+    by false = omega (arith, ints)
+
+  pub turn_small : nat_abs (to_z w32 (of_z w32 sign) *ℤ to_z w32 (of_z w32 s)) ≤ 128
+  turn_small = rw turn_is (by v) where
+    by : (b : Bool) → nat_abs (signed b s) ≤ 128
+    by true = omega (arith, ints)
+    by false = small
 
 -- the negation of an end, as the code forms it
 pub negation_is : (z : ℤ) → nat_abs z ≤ 128 → to_z w32 (of_z w32 (pos 0 -ℤ to_z w32 (of_z w32 z))) ≡ neg_ℤ z

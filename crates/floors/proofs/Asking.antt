@@ -1,10 +1,11 @@
--- Lemmas on the local function of a direction, applied to the windows that floors make.
-use Rattle.std.proofs.Common.{◌≡◌, ℕ, zero, suc, ◌+◌, ◌-◌, ◌*◌, ◌^◌, ◌<◌, ◌≤◌, List, ◌++◌, reverse, length, get_or, take, drop, set, Some, None, Ok, Err, Option, sym, refl, ap, ◌∙◌, subst, ap₂, mul-le-mul_right, add-mul, mul-le-mul, add-one, arith, take-add}
+-- Lemmas on the local function of a direction, applied to the windows that a floor makes.
+use Rattle.std.proofs.Common.{◌≡◌, ℕ, zero, suc, ◌+◌, ◌-◌, ◌*◌, ◌^◌, ◌<◌, ◌≤◌, List, ◌++◌, reverse, length, get_or, take, drop, set, ℤ, Some, None, Option, sym, refl, ap, ◌∙◌, subst, ap₂, mul-le-mul_right, add-mul, mul-le-mul, add-one, arith, take-add}
 use lib.Arith.{digits_div, digits_mod}
-use native.Mathlib.Nat.{pow-le-pow_right}
-use Rattle.std.proofs.lemmas.List.{length-take, length-drop, length-take-le, get_or-take, get_or-drop, drop-drop, drop-set-lt, drop-take, take-take, length-reverse, get_or-reverse}
+use native.Mathlib.Nat.{pow-zero, pow-le-pow_right}
+use Rattle.std.proofs.lemmas.List.{take-append-le, length-take, length-drop, length-take-le, get_or-take, get_or-drop, drop-drop, drop-set-lt, drop-take, take-take, length-reverse, get_or-reverse}
 use Rattle.std.specs.Option.{option_map}
 use Rattle.rings.specs.declared.Direction.{Direction}
+use Rattle.rings.specs.Integers.{floor_mod}
 use Rattle.rings.specs.Line.{tabulate, power}
 use Rattle.rings.specs.Ring.{Codes}
 use Rattle.rings.specs.Local.{Local}
@@ -13,7 +14,7 @@ use Rattle.rings.specs.Packing.{digit, number, unblocks}
 use Rattle.rings.specs.Transformations.{map_list_windows, iterate_value, pack_value, iterate_local, mirror_local}
 use Rattle.rings.proofs.Line.{length-tabulate, slice_index-tabulate, is_tabulate}
 use Rattle.rings.proofs.Local.{power_out}
-use Rattle.rings.proofs.Packing.{number_lt, length-unblocks, slice_index-unblocks, ring-unblocks}
+use Rattle.rings.proofs.Packing.{number_same, number_lt, length-unblocks, slice_index-unblocks, ring-unblocks}
 use Rattle.rings.proofs.Transformations.{width-iterate, width-mirror}
 use Rattle.rules.specs.declared.fault.RuleFault.{RuleFault}
 use Rattle.rules.specs.Answers.{answer, checked}
@@ -21,17 +22,16 @@ use Rattle.rules.specs.Steps.{value_of, Reads, part}
 use Rattle.rules.specs.Windows.{Readable, readable, checked_readable, checked_refused}
 use Rattle.rules.specs.TablesLemmas.{pow_more}
 use Rattle.rules.proofs.Maps.{Usable, usable, answer-reads}
-use Rattle.floors.specs.declared.apply.Blocks.{Blocks}
-use Rattle.floors.specs.Asking.{HasWidth, Packing, blocks_answer}
+use Rattle.floors.specs.Asking.{HasWidth, Packing}
 use Rattle.towers.specs.Numbers.{Standing}
 use Rattle.towers.specs.Towers.{Tower}
 use Rattle.towers.specs.Standing.{top_lawful}
 
 -- the local function of a direction, which may be missing
 
--- a tower that stands has a usable top
-pub usable_top : (t : Tower) (d : Direction) → Standing t → Usable t.top.states (toward d t.top)
-usable_top t d s = usable d t.top (top_lawful t s)
+-- it is usable, with another name for the states
+pub usable_as : (q : ℕ) (d : Direction) (a : Automaton) → Lawful a → q ≡ a.states → Usable q (toward d a)
+usable_as q d a l same = subst (λ n. Usable n (toward d a)) (sym same) (usable d a l)
 
 -- a window has at least one cell
 pub some-width : (o : Option Local) (w : ℕ) → HasWidth o w → 1 ≤ w
@@ -47,18 +47,6 @@ reads q (Some l) w ws h r = (r.len ∙ h, r.codes)
 pub value_lt : (q : ℕ) (o : Option Local) (ws : List ℕ) → Usable q o → Reads q o ws → value_of o ws < q
 value_lt q None ws u r = absurd r
 value_lt q (Some l) ws u r = u.0.closed ws r.0 r.1
-
--- a window that is refused, and one that is not
-pub answer-refused : (q : ℕ) (o : Option Local) (w : ℕ) (ws : List ℕ) (f : RuleFault) → HasWidth o w → Err f ≡ checked {X = Unit {0}} q w ws tt → Err f ≡ answer q o ws
-answer-refused q None w ws f h e = absurd h
-answer-refused q (Some l) w ws f h e = checked_refused q w ws f (l.value ws) e ∙ ap (λ n. checked q n ws (l.value ws)) h
-
-pub answer-value : (q : ℕ) (o : Option Local) (w : ℕ) (ws : List ℕ) (v : ℕ) → HasWidth o w → Ok tt ≡ checked {X = Unit {0}} q w ws tt → v ≡ value_of o ws → Ok v ≡ answer q o ws
-answer-value q o w ws v h e s = ap Ok s ∙ sym (answer-reads q o ws (reads q o w ws h (readable q w ws e)))
-
--- a checked window, with another name for the states
-pub readable-same : (p q w : ℕ) (ws : List ℕ) → p ≡ q → Ok tt ≡ checked {X = Unit {0}} p w ws tt → Readable q w ws
-readable-same p q w ws s e = subst (λ n. Readable n w ws) s (readable p w ws e)
 
 -- one multiple more, up to n of them
 pub multiple_more : (i n m : ℕ) → i < n → ((i + 1) * m ≡ i * m + m) × (i * m + m ≤ n * m)
@@ -115,30 +103,73 @@ power_more f n x = ap (λ k. power f k x) (add-one n) ∙ power_out f n x
 
 -- many steps
 
--- a row of `count` cells, after i of t steps and before the next one
-pub record RowBefore (t w i count : ℕ) (row : List ℕ) : Type 0 where
-  pub some : 1 ≤ w
-  pub wide : w ≤ count
-  pub short : count ≤ 64
-  pub size : length (take (count - 0) row) ≡ count
-  pub next : count - (w - 1) + (i + 1) * (w - 1) ≡ t * (w - 1) + 1
+-- a window of t steps, of at most 64 cells
+pub record Stepping (q : ℕ) (o : Option Local) (w t : ℕ) (ws : List ℕ) : Type 0 where
+  pub usable : Usable q o
+  pub width : HasWidth o w
+  pub reads : Reads q (option_map (iterate_local t) o) ws
+  pub short : length ws ≤ 64
 
-pub row_before : (o : Option Local) (t w i count : ℕ) (row : List ℕ) → HasWidth o w → t * (w - 1) + 1 ≤ 64 → i < t → count + i * (w - 1) ≡ t * (w - 1) + 1 → length row ≡ 64 → RowBefore t w i count row
-row_before o t w i count row h few l e long =
-    let some = some-width o w h in
-    let step = multiple_more i t (w - 1) l in
-    let n : count - 0 ≡ count = omega arith in
-    record { some = some; wide = omega (arith, step.1); short = omega arith; size = ap (λ k. length (take k row)) n ∙ length-take-le count row (omega arith); next = omega (arith, step.0, step.1) }
+-- it has the cells of all steps
+readable_iterated : (q : ℕ) (o : Option Local) (w t : ℕ) (ws : List ℕ) → Stepping q o w t ws → Readable q (t * (w - 1) + 1) ws
+readable_iterated q None w t ws s = absurd s.width
+readable_iterated q (Some l) w t ws s = record { len = s.reads.0 ∙ width-iterate t l s.usable.0.ordered ∙ ap (λ n. t * (n - 1) + 1) (sym s.width); codes = s.reads.1 }
 
--- the windows of t steps, and the code at the end of the rows
-pub width_iterated : (q : ℕ) (o : Option Local) (w t : ℕ) → Usable q o → HasWidth o w → HasWidth (option_map (iterate_local t) o) (t * (w - 1) + 1)
-width_iterated q None w t u h = absurd h
-width_iterated q (Some l) w t u h = ap (λ n. t * (n - 1) + 1) h ∙ sym (width-iterate t l u.0.ordered)
-
-pub value_iterated : (o : Option Local) (w t : ℕ) (ws : List ℕ) → HasWidth o w → get_or (power (map_list_windows (value_of o) w) t ws) 0 0 ≡ value_of (option_map (iterate_local t) o) ws
+value_iterated : (o : Option Local) (w t : ℕ) (ws : List ℕ) → HasWidth o w → get_or (power (map_list_windows (value_of o) w) t ws) 0 0 ≡ value_of (option_map (iterate_local t) o) ws
 unfolding iterate_value
 value_iterated None w t ws h = absurd h
 value_iterated (Some l) w t ws h = ap (λ n. iterate_value l.value n t ws) h
+
+module _ {q : ℕ} {o : Option Local} {w t : ℕ} {ws : List ℕ} (s : Stepping q o w t ws) where
+  -- the row after t - n steps stands at the front of a row
+  abbrev pub RowLeft : ℕ → List ℕ → Type 0
+  RowLeft n row = take (n * (w - 1) + 1) row ≡ power (map_list_windows (value_of o) w) (t - n) ws
+
+  pub first_row : (row : List ℕ) → take (length ws) row ≡ ws → RowLeft t row
+  unfolding power
+  first_row row front =
+      let none : t - t ≡ 0 = omega arith in
+      ap (λ n. take n row) (sym (readable_iterated q o w t ws s).len) ∙ front ∙ ap (λ n. power (map_list_windows (value_of o) w) n ws) (sym none)
+
+  pub last_row : (n : ℕ) (row : List ℕ) → n ≤ 0 → RowLeft n row → get_or row 0 0 ≡ value_of (option_map (iterate_local t) o) ws
+  last_row n row none now =
+      let zero : n ≡ 0 = omega arith in
+      let one : n * (w - 1) + 1 ≡ 1 = omega (arith, ap (λ k. k * (w - 1)) zero) in
+      let all : t - n ≡ t = omega arith in
+      sym (get_or-take 1 row 0 0 (omega arith)) ∙ ap (λ cells. get_or cells 0 0) (ap (λ k. take k row) (sym one) ∙ now ∙ ap (λ k. power (map_list_windows (value_of o) w) k ws) all) ∙ value_iterated o w t ws s.width
+
+  -- a step from it, as the code has its cells
+  module _ (n : ℕ) (row : List ℕ) (some : 0 < n) (most : n ≤ t) (long : length row ≡ 64) (now : RowLeft n row) where
+    abbrev cells : ℕ
+    cells = (n - 1 + 1) * (w - 1) + 1
+
+    same : cells ≡ n * (w - 1) + 1
+    same = let e : n - 1 + 1 ≡ n = omega arith in ap (λ k. k * (w - 1) + 1) e
+
+    pub inside : cells ≤ length row
+    inside =
+        let step = multiple_more (n - 1) t (w - 1) (omega arith) in
+        omega (arith, step.0, step.1, s.short, (readable_iterated q o w t ws s).len)
+
+    size : length (take (cells - 0) row) ≡ cells
+    size = let e : cells - 0 ≡ cells = omega arith in ap (λ k. length (take k row)) e ∙ length-take-le cells row inside
+
+    pub wide : w ≤ length (take (cells - 0) row)
+    wide = omega (arith, size, (multiple_more (n - 1) t (w - 1) (omega arith)).0, some-width o w s.width)
+
+    is_now : take (cells - 0) row ≡ power (map_list_windows (value_of o) w) (t - n) ws
+    is_now = let e : cells - 0 ≡ n * (w - 1) + 1 = omega (arith, same) in ap (λ k. take k row) e ∙ now
+
+    pub codes : Codes q (take (cells - 0) row)
+    codes = subst (Codes q) (sym is_now) (codes_rows q o w s.usable s.width (t - n) ws (readable_iterated q o w t ws s).codes)
+
+    pub next_row : (written rest : List ℕ) → length written ≡ length (take (cells - 0) row) → take (length (take (cells - 0) row) + 1 - w) written ≡ map_list_windows (value_of o) w (take (cells - 0) row) → RowLeft (n - 1) (written ++ rest)
+    next_row written rest keeps e =
+        let step = (multiple_more (n - 1) t (w - 1) (omega arith)).0 in
+        let count : (n - 1) * (w - 1) + 1 ≡ length (take (cells - 0) row) + 1 - w = omega (arith, size, step, some-width o w s.width) in
+        let turn : t - (n - 1) ≡ t - n + 1 = omega arith in
+        take-append-le ((n - 1) * (w - 1) + 1) written rest (omega (arith, keeps, size, step)) ∙ ap (λ k. take k written) count ∙ e ∙ ap (map_list_windows (value_of o) w) is_now ∙
+        sym (ap (λ k. power (map_list_windows (value_of o) w) k ws) turn ∙ power_more (map_list_windows (value_of o) w) (t - n) ws)
 
 -- a mirror
 
@@ -197,54 +228,96 @@ next_digit q m f j code weight value some few below h e s v =
     let more : weight * q ≡ q ^ (j + 1) = ap (λ n. n * q) s ∙ sym (pow_more q j) in
     record { product = omega arith; sum = omega arith; power = omega arith; next_code = next; next_weight = more }
 
--- the windows of the cells of a block, in a packed window that was checked
-module _ {a : Automaton} {d : Direction} {b : Blocks} (lawful : Lawful a) (p : Packing a d b) (ws : List ℕ) (e : Ok tt ≡ checked {X = Unit {0}} b.total b.cells ws tt) where
-  abbrev window-at : ℕ → List ℕ
-  window-at j = part (unblocks b.states b.block ws) (j + b.skip) b.width
+-- the cells under m windows of w cells, which have codes below q
+pub record Under (q : ℕ) (o : Option Local) (w m : ℕ) (cells : List ℕ) : Type 0 where
+  pub usable : Usable q o
+  pub width : HasWidth o w
+  pub some : 1 ≤ q
+  pub positive : 1 ≤ m
+  pub few : q ^ m ≤ 16777216
+  pub size : length cells ≡ m - 1 + w
+  pub codes : Codes q cells
 
-  size : length ws * b.block ≡ b.cells * b.block
-  size = ap (λ n. n * b.block) (readable b.total b.cells ws e).len
+-- the number of the first j digits, each the value at a window, and the weight of the next one
+pub record Digits (q : ℕ) (o : Option Local) (w m : ℕ) (cells : List ℕ) (j code weight : ℕ) : Type 0 where
+  pub most : j ≤ m
+  pub number_is : code ≡ number q (λ i. value_of o (part cells i w)) j
+  pub weight_is : weight ≡ q ^ j
 
-  some-states : 1 ≤ b.states
-  some-states = omega (arith, p.same, lawful.sound.some)
+pub no_digit : {q : ℕ} {o : Option Local} {w m : ℕ} {cells : List ℕ} → Digits q o w m cells 0 0 1
+unfolding number
+no_digit {q = q} = record { most = omega arith; number_is = refl; weight_is = sym (pow-zero q) }
 
-  -- the packed window has digits, and there is room for them
-  pub unpackable : (1 ≤ b.states) × (length ws * b.block ≤ 1024)
-  unpackable = let most : b.cells * b.block ≤ 64 * 16 = mul-le-mul p.fits p.short in (some-states, omega (arith, size))
+module _ {q : ℕ} {o : Option Local} {w m : ℕ} {cells : List ℕ} (u : Under q o w m cells) {j code weight : ℕ} (d : Digits q o w m cells j code weight) where
+  -- the window of the next digit
+  module _ (rest window : List ℕ) (left : rest ≡ drop j cells) (long : w ≤ length rest) (is : window ≡ take w rest) where
+    window_is : window ≡ part cells j w
+    window_is = is ∙ ap (take w) left
 
-  -- the window of the cell j of the block lies inside, and can be read
-  pub window-inside : (j : ℕ) → j < b.block → j + b.skip + b.width ≤ length ws * b.block
-  window-inside j h = omega (arith, size, p.inside)
+    before : j < m
+    before = omega (arith, ap length left, length-drop j cells, long, u.size, u.positive, some-width o w u.width)
 
-  pub window-reads : (j : ℕ) → j < b.block → Reads a.states (toward d a) (window-at j)
-  window-reads j h =
-      let cells = unblocks b.states b.block ws in
-      let fits : j + b.skip + b.width ≤ length cells = omega (arith, window-inside j h, length-unblocks b.states b.block ws) in
-      let some : 1 ≤ length ws = some_factor (length ws) b.block (omega (arith, window-inside j h, some-width (toward d a) b.width p.width)) in
-      let codes : Codes a.states cells = subst (λ q. Codes q cells) p.same (ring-unblocks b.states b.block ws p.some some-states some).codes in
-      reads a.states (toward d a) b.width (window-at j) p.width (part-readable a.states b.width (j + b.skip) cells fits codes)
+    pub window_reads : Reads q o window
+    window_reads = subst (Reads q o) (sym window_is) (reads q o w (part cells j w) u.width (part-readable q w j cells (omega (arith, u.size, before)) u.codes))
 
-  -- it is found in any cells that begin with the unpacked ones
-  pub window-part : (j : ℕ) (cells : List ℕ) → j < b.block → take (length ws * b.block) cells ≡ unblocks b.states b.block ws → part cells (j + b.skip) (j + b.skip + b.width - (j + b.skip)) ≡ window-at j
-  window-part j cells h front =
-      let n : j + b.skip + b.width - (j + b.skip) ≡ b.width = omega arith in
-      ap (part cells (j + b.skip)) n ∙ part_of_front (length ws * b.block) b.width (j + b.skip) cells (window-inside j h) ∙ ap (λ u. part u (j + b.skip) b.width) front
+    -- with the next digit
+    module _ (value : ℕ) (v : value ≡ value_of o window) where
+      pub next_number : NextDigit q (λ i. value_of o (part cells i w)) j code weight value
+      next_number =
+          next_digit q m (λ i. value_of o (part cells i w)) j code weight value u.some u.few
+          (λ i l. value_lt q o (part cells i w) u.usable (reads q o w (part cells i w) u.width (part-readable q w i cells (omega (arith, u.size)) u.codes)))
+          before d.number_is d.weight_is (v ∙ ap (value_of o) window_is)
 
-  -- the value at the window of the cell j is the digit j
-  packed_digit : (j code weight value : ℕ) → j < b.block → code ≡ number b.states (λ i. value_of (toward d a) (window-at i)) j → weight ≡ b.states ^ j → value ≡ value_of (toward d a) (window-at j)
-      → NextDigit b.states (λ i. value_of (toward d a) (window-at i)) j code weight value
-  packed_digit j code weight value h c s v =
-      next_digit b.states b.block (λ i. value_of (toward d a) (window-at i)) j code weight value some-states (omega (arith, p.power, p.few))
-      (λ i l. omega (arith, p.same, value_lt a.states (toward d a) (window-at i) (usable d a lawful) (window-reads i l))) h c s v
+      pub next_digits : (k : ℕ) → k ≡ j + 1 → Digits q o w m cells k (code + value * weight) (weight * q)
+      next_digits k e = subst (λ n. Digits q o w m cells n (code + value * weight) (weight * q)) (sym e) (record { most = omega (arith, before); number_is = next_number.next_code; weight_is = next_number.next_weight })
 
-  -- so the code and the weight stay small when the top was applied to it
-  pub next_packed : (j code weight value : ℕ) (cells : List ℕ) → j < b.block → code ≡ number b.states (λ i. value_of (toward d a) (window-at i)) j → weight ≡ b.states ^ j
-      → value ≡ value_of (toward d a) (part cells (j + b.skip) (j + b.skip + b.width - (j + b.skip))) → take (length ws * b.block) cells ≡ unblocks b.states b.block ws
-      → NextDigit b.states (λ i. value_of (toward d a) (window-at i)) j code weight value
-  next_packed j code weight value cells h c s v front = packed_digit j code weight value h c s (v ∙ ap (value_of (toward d a)) (window-part j cells h front))
+    pub next_rest : (k : ℕ) → k ≡ j + 1 → drop 1 rest ≡ drop k cells
+    next_rest k e = ap (drop 1) left ∙ drop-drop 1 j cells ∙ ap (λ n. drop n cells) (sym e)
 
--- the answer, when all digits are there
-pub blocks-value : (o : Option Local) (b : Blocks) (ws : List ℕ) (code : ℕ) → Ok tt ≡ checked {X = Unit {0}} b.total b.cells ws tt
-    → code ≡ number b.states (λ i. value_of o (part (unblocks b.states b.block ws) (i + b.skip) b.width)) b.block → Ok code ≡ blocks_answer o b ws
-unfolding pack_value
-blocks-value o b ws code e v = ap Ok v ∙ sym (checked_readable b.total b.cells ws (readable b.total b.cells ws e) _)
+  -- with all digits
+  pub all_digits : (rest : List ℕ) → rest ≡ drop j cells → length rest < w → code ≡ number q (λ i. value_of o (part cells i w)) m
+  all_digits rest left short =
+      let all : j ≡ m = omega (arith, ap length left, length-drop j cells, u.size, d.most) in
+      d.number_is ∙ ap (number q (λ i. value_of o (part cells i w))) all
+
+-- a window of blocks of m cells, which is unpacked
+pub record Unpacking (q : ℕ) (o : Option Local) (w m : ℕ) (lo : ℤ) (ws : List ℕ) : Type 0 where
+  pub usable : Usable q o
+  pub width : HasWidth o w
+  pub some : 1 ≤ q
+  pub positive : 1 ≤ m
+  pub short : m ≤ 16
+  pub packing : Packing q m lo w (length ws)
+
+module _ {q : ℕ} {o : Option Local} {w m : ℕ} {lo : ℤ} {ws : List ℕ} (u : Unpacking q o w m lo ws) where
+  -- there is room for its digits
+  pub room : length ws * m ≤ 1024
+  room = let most : length ws * m ≤ 64 * 16 = mul-le-mul u.packing.fits u.short in omega arith
+
+  -- the cells under the windows of a block
+  module _ (digits : List ℕ) (skip : ℕ) (s : skip ≡ floor_mod lo m) (front : take (length ws * m) digits ≡ unblocks q m ws) where
+    abbrev under : List ℕ
+    under = take (skip + m - 1 + w - skip) (drop skip digits)
+
+    pub fits : skip + (m - 1 + w) ≤ length ws * m
+    fits = omega (arith, u.packing.inside, s)
+
+    under_is : under ≡ part (unblocks q m ws) skip (m - 1 + w)
+    under_is =
+        let count : skip + m - 1 + w - skip ≡ m - 1 + w = omega (arith, u.positive) in
+        ap (λ n. take n (drop skip digits)) count ∙ part_of_front (length ws * m) (m - 1 + w) skip digits fits ∙ ap (λ c. part c skip (m - 1 + w)) front
+
+    pub under_block : (cells : List ℕ) → cells ≡ under → Under q o w m cells
+    under_block cells is =
+        let one : 1 ≤ length ws = some_factor (length ws) m (omega (arith, fits, u.positive, some-width o w u.width)) in
+        let r = part-readable q (m - 1 + w) skip (unblocks q m ws) (omega (arith, fits, length-unblocks q m ws)) (ring-unblocks q m ws u.positive u.some one).codes in
+        subst (Under q o w m) (sym (is ∙ under_is)) (record { usable = u.usable; width = u.width; some = u.some; positive = u.positive; few = u.packing.few; size = r.len; codes = r.codes })
+
+    -- the number of all digits is the value on blocks
+    pub packed_value : (cells : List ℕ) → cells ≡ under → number q (λ i. value_of o (part cells i w)) m ≡ pack_value q m (value_of o) (floor_mod lo m) w ws
+    unfolding pack_value
+    packed_value cells is =
+        number_same q m (λ i. value_of o (part cells i w)) (λ i. value_of o (part (unblocks q m ws) (i + floor_mod lo m) w)) (λ i l.
+        let place : skip + i ≡ i + floor_mod lo m = omega (arith, s) in
+        ap (value_of o) (ap (λ c. part c i w) (is ∙ under_is) ∙ sym (part_of_front (m - 1 + w) w i (drop skip (unblocks q m ws)) (omega (arith, l))) ∙
+        ap (take w) (drop-drop i skip (unblocks q m ws) ∙ ap (λ n. drop n (unblocks q m ws)) place)))

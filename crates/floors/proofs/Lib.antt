@@ -1,5 +1,5 @@
 pub mod Arithmetic
 pub mod Asking
-pub mod Answering
 pub mod Places
+pub mod Answering
 pub mod Laws

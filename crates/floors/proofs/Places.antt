@@ -10,11 +10,11 @@ use Rattle.towers.specs.declared.numbers.Numbers.{Numbers}
 use Rattle.towers.specs.Towers.{Tower}
 use Rattle.towers.specs.Numbers.{numbers_of, Standing}
 use Rattle.floors.specs.Actions.{act_on, act_numbers, in_range, fits, floor_or, reduced_block}
-use Rattle.floors.specs.Acting.{Workable, acted}
+use Rattle.floors.specs.Acting.{acted}
 use Rattle.floors.specs.Floors.{moved_place}
 use Rattle.towers.specs.Places.{place_answer}
 use Rattle.towers.proofs.Places.{answer, answered, told, place_inside}
-use Rattle.floors.specs.ActingLemmas.{acted_numbers, standing_acted, workable}
+use Rattle.floors.specs.ActingLemmas.{acted_numbers, standing_acted}
 
 -- a refusal does not depend on the place
 other_place : (b c d : Bool) (p q : Place) (f : TowerFault) → Err f ≡ answer b c d p → Err f ≡ answer b c d q
@@ -44,18 +44,11 @@ whole_below (Shift s) t n e = e
 whole_below Mirror t n e = e
 whole_below Reduce t n e = whole_part t.block (reduced_block (numbers_of t)) n e
 
--- the places of a floor over a tower, for a ring that is empty or a multiple of the floor's block
-module _ (act : Action) (t : Tower) (n j : ℕ) (whole : 1 ≤ n → n % (act_on act t).block ≡ 0) where
+-- the places of a floor over a tower, for a multiple of the floor's block
+module _ (act : Action) (t : Tower) (n j : ℕ) (whole : n % (act_on act t).block ≡ 0) where
   -- both blocks answer alike
-  same_whole : (b : Bool) → b ≡ eqb n 0 → (c d : Bool) → c ≡ eqb (n % t.block) 0 → d ≡ eqb (n % (act_on act t).block) 0 → (outside : Bool) (p : Place) → answer b c outside p ≡ answer b d outside p
-  same_whole true e c d f g outside p = refl
-  same_whole false e c d f g outside p =
-      let some : 1 ≤ n = omega (arith, eqb-false n 0 (sym e)) in
-      let both : c ≡ d = f ∙ eq-eqb _ _ (whole_below act t n (whole some)) ∙ sym (eq-eqb _ _ (whole some)) ∙ sym g in
-      ap (λ w. answer false w outside p) both
-
   alike : (p : Place) → answer (eqb n 0) (eqb (n % t.block) 0) (leb n j) p ≡ answer (eqb n 0) (eqb (n % (act_on act t).block) 0) (leb n j) p
-  alike p = same_whole (eqb n 0) refl _ _ refl refl (leb n j) p
+  alike p = ap (λ w. answer (eqb n 0) w (leb n j) p) (eq-eqb _ _ (whole_below act t n whole) ∙ sym (eq-eqb _ _ whole))
 
   pub place-refused : (f : TowerFault) → Err f ≡ place_answer t n j → Err f ≡ place_answer (act_on act t) n j
   place-refused f h = other_place (eqb n 0) (eqb (n % (act_on act t).block) 0) (leb n j) (told t n j) (told (act_on act t) n j) f (h ∙ alike (told t n j))
@@ -84,13 +77,13 @@ module _ (act : Action) (t : Tower) (s : Standing t) (x y : Numbers) (same : x �
   pub block-some : 0 < y.block
   block-some = rw block-after (standing_acted act t s fit).laws.block
 
-  -- the numbers and the place can be moved
-  pub movable : (n j : ℕ) (p : Place) → Ok p ≡ place_answer t n j → (Workable x × (1 ≤ x.block)) × ((p.cell < n / x.block) × (p.digit < x.block))
-  movable n j p h = subst (λ z. (Workable z × (1 ≤ z.block)) × ((p.cell < n / z.block) × (p.digit < z.block))) (sym same) ((workable t s, s.laws.block), place_inside t s n j p h)
+  -- the place lies inside
+  pub inside : (n j : ℕ) (p : Place) → Ok p ≡ place_answer t n j → (p.cell < n / x.block) × (p.digit < x.block)
+  inside n j p h = subst (λ z. (p.cell < n / z.block) × (p.digit < z.block)) (sym same) (place_inside t s n j p h)
 
-  module _ (n j : ℕ) (whole : 1 ≤ n → n % y.block ≡ 0) where
-    whole_after : 1 ≤ n → n % (act_on act t).block ≡ 0
-    whole_after h = ap (λ m. n % m) (sym block-after) ∙ whole h
+  module _ (n j : ℕ) (whole : n % y.block ≡ 0) where
+    whole_after : n % (act_on act t).block ≡ 0
+    whole_after = ap (λ m. n % m) (sym block-after) ∙ whole
 
     acts : place_answer (act_on act t) n j ≡ place_answer (floor_or act t) n j
     acts = ap (λ u. place_answer u n j) (sym (cond-true _ _ _ fit))

@@ -1,8 +1,8 @@
 -- Lemmas on actions: their numbers are those of the towers that they make, and a floor over a tower that stands stands.
-use Rattle.std.specs.Prelude.{◌≡◌, ℕ, ◌^◌, ◌≤◌, Bool, true, false, cond, ◌&&◌, ℤ, pos, negsuc, ◌+ℤ◌, neg_ℤ, ◌≤ℤ◌, IfSome, Some, None, Option, int_le, nat_le, refl}
-use Rattle.std.proofs.Common.{sym, ap, ap₂, subst, ◌∙◌, arith}
+use Rattle.std.specs.Prelude.{◌≡◌, ℕ, ◌^◌, ◌≤◌, Bool, true, false, cond, ◌&&◌, ℤ, pos, negsuc, ◌+ℤ◌, neg_ℤ, ◌≤ℤ◌, IfSome, Some, None, Option, int_le, nat_le, unsigned_abs, refl}
+use Rattle.std.proofs.Common.{sym, ap, subst, ◌∙◌, arith}
 use Rattle.std.proofs.lemmas.Int.{ints}
-use Rattle.std.proofs.lemmas.Bool.{leb-true, and_parts, and_left, cond_both, cond-false}
+use Rattle.std.proofs.lemmas.Bool.{leb-true, le-leb, and_parts, and_from, cond_both, true≢false}
 use Rattle.std.specs.Option.{option_map}
 use Rattle.rings.specs.Local.{Local, span}
 use Rattle.rings.specs.Automaton.{Narrow, Bounded, Proper, Inverse}
@@ -14,7 +14,7 @@ use Rattle.towers.specs.declared.numbers.Numbers.{Numbers}
 use Rattle.towers.specs.Towers.{Tower, Stands}
 use Rattle.floors.specs.Transformed.{iterate_tower, shift_tower, mirror_tower, pack_tower}
 use Rattle.towers.specs.Numbers.{numbers_of, Standing}
-use Rattle.floors.specs.Actions.{act_on, iterate_ends, shift_ends, mirror_ends, pack_ends, iterate_numbers, shift_numbers, mirror_numbers, pack_numbers, reduced_block, act_numbers, in_range, ends_fit, inverse_fits, intervals_fit, within_limits, fits, floor_or, floor_numbers}
+use Rattle.floors.specs.Actions.{act_on, iterate_ends, shift_ends, mirror_ends, pack_ends, iterate_numbers, shift_numbers, mirror_numbers, pack_numbers, reduced_block, act_numbers, in_range, ends_fit, inverse_fits, intervals_fit, within_limits, reduces, fits, floor_or, floor_numbers}
 use Rattle.floors.specs.Acting.{LawfulEnds, LawfulInverse, Packable, Workable, limited, acted}
 use Rattle.floors.specs.TransformedLemmas.{stands_iterate, stands_shift, stands_mirror, stands_pack, stands_reduce}
 
@@ -94,22 +94,39 @@ narrow-inverse : (o : Option Local) → inverse_fits (ends o) ≡ true → IfSom
 narrow-inverse None h = tt
 narrow-inverse (Some l) h = narrow l h
 
+-- what the limits say, one after the other
+record Within (x : Numbers) : Type 0 where
+  states : x.states ≤ 16777216
+  intervals : intervals_fit x ≡ true
+  block : x.block ≤ 65536
+  steps : x.steps ≤ 65536
+  drift : unsigned_abs x.drift ≤ 16777216
+
+within : (x : Numbers) → within_limits x ≡ true → Within x
+unfolding within_limits
+within x h =
+    let p = and_parts _ _ h in
+    let q = and_parts _ _ p.1 in
+    let r = and_parts _ _ q.1 in
+    let s = and_parts _ _ r.1 in
+    record { states = leb-true _ _ p.0; intervals = q.0; block = leb-true _ _ r.0; steps = leb-true _ _ s.0; drift = leb-true _ _ s.1 }
+
+within_limits_of : (x : Numbers) → Within x → within_limits x ≡ true
+unfolding within_limits
+within_limits_of x w = and_from _ _ (le-leb _ _ w.states) (and_from _ _ w.intervals (and_from _ _ (le-leb _ _ w.block) (and_from _ _ (le-leb _ _ w.steps) (le-leb _ _ w.drift))))
+
 -- a tower that stands keeps the bounds if its numbers are within the limits
 standing_within : (t : Tower) → Stands t → Bounded t.bottom → within_limits (numbers_of t) ≡ true → Standing t
-unfolding within_limits
 standing_within t stands bottom h =
-    let p = and_parts _ _ h in
-    let r = and_parts _ _ p.1 in
-    let intervals = and_parts _ _ r.0 in
-    let u = and_parts _ _ r.1 in
-    let v = and_parts _ _ u.1 in
+    let w = within (numbers_of t) h in
+    let intervals = and_parts _ _ w.intervals in
     record {
       laws = stands;
-      top = record { few = leb-true _ _ p.0; forward = narrow t.top.forward intervals.0; inverse = narrow-inverse t.top.inverse intervals.1 };
+      top = record { few = w.states; forward = narrow t.top.forward intervals.0; inverse = narrow-inverse t.top.inverse intervals.1 };
       bottom = bottom;
-      block = leb-true _ _ u.0;
-      steps = leb-true _ _ v.0;
-      drift = leb-true _ _ v.1;
+      block = w.block;
+      steps = w.steps;
+      drift = w.drift;
     }
 
 -- an action on a tower that stands
@@ -136,8 +153,7 @@ same-bottom Reduce t = refl
 pub standing_acted : (act : Action) (t : Tower) → Standing t → (in_range act && fits act (numbers_of t)) ≡ true → Standing (act_on act t)
 standing_acted act t s h =
     let p = and_parts _ _ h in
-    let within = (and_parts _ _ p.1).1 in
-    standing_within (act_on act t) (stands_acted act t p.0 s.laws) (subst Bounded (sym (same-bottom act t)) s.bottom) (ap within_limits (acted_numbers act t) ∙ within)
+    standing_within (act_on act t) (stands_acted act t p.0 s.laws) (subst Bounded (sym (same-bottom act t)) s.bottom) (ap within_limits (acted_numbers act t) ∙ (and_parts _ _ p.1).1)
 
 -- a floor over a tower that stands stands
 pub floor_standing : (act : Action) (t : Tower) → Standing t → Standing (floor_or act t)
@@ -178,6 +194,19 @@ packed_not m x = by (nat_le (x.states ^ m) 16777216) _ where
   by true c h = let z : ◌≡◌ {A = ℕ} 0 1 = cc in absurd (omega arith)
   by false c h = refl
 
+-- numbers that are within the limits, or not
+pub limited_is : (x y : Numbers) → Some y ≡ limited x → (within_limits x ≡ true) × (y ≡ x)
+limited_is x y = by (within_limits x) where
+  by : (b : Bool) → Some y ≡ cond b (Some x) None → (b ≡ true) × (y ≡ x)
+  by true h = (refl, cc)
+  by false h = let z : ◌≡◌ {A = ℕ} 0 1 = cc in absurd (omega arith)
+
+limited_not : (x : Numbers) → None ≡ limited x → within_limits x ≡ false
+limited_not x = by (within_limits x) where
+  by : (b : Bool) → None ≡ cond b (Some x) None → b ≡ false
+  by true h = let z : ◌≡◌ {A = ℕ} 0 1 = cc in absurd (omega arith)
+  by false h = refl
+
 -- shifted ends that pass the test are those of a rule
 lawful_shifted : (s lo hi : ℤ) → LawfulEnds lo hi → ends_fit (lo +ℤ s) (hi +ℤ s) ≡ true → LawfulEnds (lo +ℤ s) (hi +ℤ s)
 lawful_shifted s lo hi l h =
@@ -188,28 +217,38 @@ lawful_inverse_shifted : (s : ℤ) (o : Option (ℤ × ℤ)) → LawfulInverse o
 lawful_inverse_shifted s None l h = tt
 lawful_inverse_shifted s (Some e) l h = lawful_shifted s e.0 e.1 l h
 
--- shifted numbers that pass the test can be packed
-pub packable_shifted : (s : ℤ) (x y : Numbers) → Packable x → y ≡ shift_numbers s x → intervals_fit y ≡ true → Packable y
-packable_shifted s x y p e h =
-    let q = and_parts _ _ (ap intervals_fit (sym e) ∙ h) in
-    subst Packable (sym e) (record {
-      ends = lawful_shifted s x.lo x.hi p.ends q.0;
-      inverse = lawful_inverse_shifted (neg_ℤ s) x.inverse p.inverse q.1;
-      some = p.some;
-      few = p.few;
-      block = p.block;
-    })
+-- reduction
 
--- reduction by blocks of m cells, over the shifted numbers y
-module _ (x y : Numbers) (m : ℕ) (block : m ≡ reduced_block x) (shifted : y ≡ shift_numbers (neg_ℤ x.lo) x) where
-  abbrev answer : ℕ → Numbers → Option Numbers
-  answer n z = cond ((nat_le n 16 && intervals_fit z) && within_limits (pack_numbers n z)) (Some (pack_numbers n z)) None
+module _ (x : Numbers) (w : Workable x) where
+  abbrev shifted : Numbers
+  shifted = shift_numbers (neg_ℤ x.lo) x
 
-  same : answer m y ≡ acted Reduce x
-  same = ap₂ answer block shifted
+  -- shifted numbers within the limits can be acted on
+  pub workable_shifted : within_limits shifted ≡ true → Workable shifted
+  workable_shifted h =
+      let p = within shifted h in
+      let fit = and_parts _ _ p.intervals in
+      record {
+        packable = record {
+          ends = lawful_shifted (neg_ℤ x.lo) x.lo x.hi w.packable.ends fit.0;
+          inverse = lawful_inverse_shifted (neg_ℤ (neg_ℤ x.lo)) x.inverse w.packable.inverse fit.1;
+          some = w.packable.some;
+          few = w.packable.few;
+          block = w.packable.block;
+        };
+        steps = w.steps;
+        drift = p.drift;
+      }
 
-  pub reduced_not : (nat_le m 16 && intervals_fit y) ≡ false → None ≡ acted Reduce x
-  reduced_not h = sym (cond-false _ _ _ (and_left _ _ h)) ∙ same
+  -- they are, if reduction fits
+  within_shifted : fits Reduce x ≡ true → within_limits shifted ≡ true
+  within_shifted h =
+      let p = and_parts (reduces Reduce x) (within_limits (act_numbers Reduce x)) h in
+      let fit = (and_parts _ _ p.0).1 in
+      within_limits_of shifted (record { states = w.packable.few; intervals = fit; block = w.packable.block; steps = w.steps; drift = (within (act_numbers Reduce x) p.1).drift })
 
-  pub reduced_is : (nat_le m 16 && intervals_fit y) ≡ true → limited (pack_numbers m y) ≡ acted Reduce x
-  reduced_is h = sym (ap (λ b. cond (b && within_limits (pack_numbers m y)) (Some (pack_numbers m y)) None) h) ∙ same
+  pub reduced_not : None ≡ limited shifted → None ≡ acted Reduce x
+  reduced_not h = by (fits Reduce x) refl where
+    by : (b : Bool) → fits Reduce x ≡ b → None ≡ cond b (Some (act_numbers Reduce x)) None
+    by true e = absurd (true≢false (sym (within_shifted e) ∙ limited_not shifted h))
+    by false e = refl

@@ -1,14 +1,13 @@
 // What a floor does to the tower below it.
 ghost use Rattle.std.specs.Prelude.{◌≡◌};
 ghost use Rattle.floors.specs.Acting.{action_answer};
-ghost use Rattle.floors.specs.Actions.{action_number};
+ghost use Rattle.floors.specs.Actions.{action_number, in_range};
 
 use rules::RuleFault;
 use towers::TowerFault;
 
-const MIN_ARGUMENT: i16 = -16;
-
-const MAX_ARGUMENT: i16 = 16;
+// The greatest argument of an action; the least is its negative or 1.
+pub(crate) const MAX_ARGUMENT: u32 = 16;
 
 #[derive(Clone, Copy, PartialEq, Eq, Debug)]
 pub enum Action {
@@ -31,15 +30,18 @@ impl Action {
     pub fn new(number: u16, argument: i16) -> Result<Action, TowerFault>
         ensures answer { result ≡ action_answer number argument }
     {
-        match (number, argument) {
-            (0, 0) => Ok(Action::Unchanged),
-            (1, 1..=MAX_ARGUMENT) => Ok(Action::Pack(u32::from(argument.unsigned_abs()))),
-            (2, 1..=MAX_ARGUMENT) => Ok(Action::Iterate(u32::from(argument.unsigned_abs()))),
-            (3, MIN_ARGUMENT..=MAX_ARGUMENT) => Ok(Action::Shift(i32::from(argument))),
-            (4, 0) => Ok(Action::Mirror),
-            (5, 0) => Ok(Action::Reduce),
-            _ => Err(TowerFault::Rule(RuleFault::OutOfRange)),
-        }
+        let action = match (number, argument) {
+            (0, 0) => Some(Action::Unchanged),
+            (1, 1..) => Some(Action::Pack(u32::from(argument.unsigned_abs()))),
+            (2, 1..) => Some(Action::Iterate(u32::from(argument.unsigned_abs()))),
+            (3, _) => Some(Action::Shift(i32::from(argument))),
+            (4, 0) => Some(Action::Mirror),
+            (5, 0) => Some(Action::Reduce),
+            _ => None,
+        };
+        action
+            .filter(|action| action.is_in_range())
+            .ok_or(TowerFault::Rule(RuleFault::OutOfRange))
     }
 
     // The number of the action.
@@ -53,6 +55,17 @@ impl Action {
             Action::Shift(_) => 3,
             Action::Mirror => 4,
             Action::Reduce => 5,
+        }
+    }
+
+    // The argument is in its range.
+    pub(crate) fn is_in_range(self) -> bool
+        ensures { result ≡ in_range self }
+    {
+        match self {
+            Action::Pack(m) | Action::Iterate(m) => (1..=MAX_ARGUMENT).contains(&m),
+            Action::Shift(s) => s.unsigned_abs() <= MAX_ARGUMENT,
+            Action::Unchanged | Action::Mirror | Action::Reduce => true,
         }
     }
 }

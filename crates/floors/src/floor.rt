@@ -1,20 +1,21 @@
 // A floor: an action on the tower below it.
-ghost use Rattle.std.specs.Prelude.{◌≡◌, ◌/◌, ◌<◌, ◌≤◌, true, ◌&&◌, Some, None, MatchResult, refl};
+ghost use Rattle.std.specs.Prelude.{◌≡◌, ◌/◌, ◌<◌, true, ◌&&◌, Some, None, MatchResult, refl};
+ghost use Rattle.rings.specs.Automaton.{toward};
+ghost use Rattle.rules.specs.Answers.{answer};
 ghost use Rattle.towers.specs.Numbers.{numbers_of};
+ghost use Rattle.towers.specs.Standing.{top_lawful};
 ghost use Rattle.floors.specs.Actions.{in_range, fits, floor_or};
-ghost use Rattle.floors.specs.Acting.{Workable};
+ghost use Rattle.floors.specs.Asking.{interval, packed_numbers};
 ghost use Rattle.floors.specs.Floors.{packed_place, mirrored_place, moved_place, floor_fault};
 ghost use Rattle.floors.specs.Kinds.{floor_kind};
 ghost use Rattle.floors.specs.Laws.{FloorLaw};
-ghost use Rattle.towers.specs.Places.{place_answer};
 ghost use Rattle.floors.specs.ActingLemmas.{floor_standing};
-ghost use Rattle.towers.specs.Standing.{top_lawful};
 
 use crate::Action;
-use crate::answer::floor_answer;
-use crate::numbers::{act, is_in_range, reduced_block};
-use rings::Direction;
-use rules::{Rule, RuleFault, Shape};
+use crate::directed::DirectedRule;
+use crate::numbers::{Block, TowerNumbers};
+use rings::{Direction, Refused, interval_width};
+use rules::{Rule, RuleFault, Shape, check_window};
 use towers::{Numbers, Place, Tower, TowerFault};
 
 // A floor over a tower. Where the action is out of range or does not fit, it acts as the tower below.
@@ -24,22 +25,18 @@ pub struct Floor<T> {
     action: Action,
 }
 
-// Why a floor was not built, and the tower.
-#[derive(Drop)]
-pub struct Unbuilt<T> {
-    pub fault: TowerFault,
-    pub below: T,
-}
-
 impl<T: Tower> Floor<T> {
     // The floor with this number over a tower; a refusal brings the tower back.
-    pub fn build(below: T, action: Action, floor: usize) -> Result<Floor<T>, Unbuilt<T>>
-        ensures answer { MatchResult result (λ f. (floor_fault action (numbers_of (T.Tower.tower below)) floor ≡ None) × (f.below ≡ below) × (f.action ≡ action)) (λ e. (floor_fault action (numbers_of (T.Tower.tower below)) floor ≡ Some e.fault) × (e.below ≡ below)) }
+    pub fn build(below: T, action: Action, floor: usize) -> Result<Floor<T>, Refused<T, TowerFault>>
+        ensures answer { MatchResult result (λ f. (floor_fault action (numbers_of (T.Tower.tower below)) floor ≡ None) × (f.below ≡ below) × (f.action ≡ action)) (λ e. (floor_fault action (numbers_of (T.Tower.tower below)) floor ≡ Some e.fault) × (e.given ≡ below)) }
         ensures law { FloorLaw action (T.Tower.tower below) }
     {
-        match find_fault(action, below.numbers(), floor) {
-            None => Ok(Floor { below, action }),
-            Some(fault) => Err(Unbuilt { fault, below }),
+        match TowerNumbers::of(&below).check_action(action, floor) {
+            Ok(()) => Ok(Floor { below, action }),
+            Err(fault) => Err(Refused {
+                fault,
+                given: below,
+            }),
         }
     }
 
@@ -49,6 +46,37 @@ impl<T: Tower> Floor<T> {
         ensures law { FloorLaw action (T.Tower.tower below) }
     {
         Floor { below, action }
+    }
+
+    // What the top answers in a direction: what its action makes of the top below, or the top below where it does not act.
+    fn answer(&self, direction: Direction, window: &[u32]) -> Result<u32, RuleFault>
+        ensures { result ≡ answer (floor_or self.now.action (T.Tower.tower self.now.below)).top.states (toward direction (floor_or self.now.action (T.Tower.tower self.now.below)).top) window.now }
+    {
+        let below = TowerNumbers::of(&self.below);
+        let Some(top) = below.act(self.action) else {
+            return self.below.step(direction, window);
+        };
+        let (first, last) = interval(top, direction).ok_or(RuleFault::NoInverse)?;
+        check_window(window, top.states, interval_width(first, last))?;
+        let (lo, hi) = interval(packed_numbers(self.action, below), direction).ok_or(
+            RuleFault::NoInverse,
+        )?;
+        let rule = &DirectedRule {
+            rule: &self.below,
+            direction,
+            states: below.numbers.states,
+            width: interval_width(lo, hi),
+        };
+        match self.action {
+            Action::Unchanged | Action::Shift(_) => Ok(rule.apply(window)),
+            Action::Iterate(times) => Ok(rule.iterated(times, window)),
+            Action::Mirror => Ok(rule.mirrored(window)),
+            Action::Pack(cells) => Ok(rule.packed(Block { cells }, lo, window)),
+            Action::Reduce => {
+                let cells = below.reduced_block();
+                Ok(rule.packed(Block { cells }, lo, window))
+            }
+        }
     }
 }
 
@@ -62,12 +90,8 @@ impl<T: Tower> Rule for Floor<T> {
     ghost lawful = { λ x. top_lawful _ (floor_standing x.action _ (T.Tower.stands x.below)) };
 
     fn shape(&self) -> Shape {
-        let numbers = self.numbers();
-        Shape {
-            states: numbers.states,
-            lo: numbers.lo,
-            hi: numbers.hi,
-        }
+        let Numbers { states, lo, hi, .. } = self.numbers();
+        Shape { states, lo, hi }
     }
 
     fn inverse(&self) -> Option<(i32, i32)> {
@@ -75,11 +99,11 @@ impl<T: Tower> Rule for Floor<T> {
     }
 
     fn next(&self, window: &[u32]) -> Result<u32, RuleFault> {
-        floor_answer(&self.below, self.action, Direction::Forward, window)
+        self.answer(Direction::Forward, window)
     }
 
     fn previous(&self, window: &[u32]) -> Result<u32, RuleFault> {
-        floor_answer(&self.below, self.action, Direction::Backward, window)
+        self.answer(Direction::Backward, window)
     }
 }
 
@@ -91,45 +115,52 @@ impl<T: Tower> Tower for Floor<T> {
     ghost is_top = { λ x. refl };
 
     fn numbers(&self) -> Numbers {
-        floor_numbers(&self.below, self.action)
+        let below = TowerNumbers::of(&self.below);
+        below.act(self.action).unwrap_or(below.numbers)
     }
 
     fn place(&self, n: usize, j: usize) -> Result<Place, TowerFault> {
-        floor_place(&self.below, self.action, n, j)
+        let below = TowerNumbers::of(&self.below);
+        let Some(top) = below.act(self.action) else {
+            return self.below.place(n, j);
+        };
+        if n % top.block as usize != 0 {
+            return Err(TowerFault::Ragged);
+        }
+        let place = self.below.place(n, j)?;
+        Ok(moved_place(self.action, below, n, place))
     }
 }
 
-// Why the floor with this number is refused, if it is.
-fn find_fault(action: Action, x: Numbers, floor: usize) -> Option<TowerFault>
-    requires { Workable x }
-    ensures { result ≡ floor_fault action x floor }
+// The ends of the interval of a direction. (Rule::interval would ask the whole tower once more for its numbers.)
+fn interval(numbers: Numbers, direction: Direction) -> Option<(i32, i32)>
+    ensures { result ≡ interval direction numbers }
 {
-    if !is_in_range(action) {
-        return Some(TowerFault::Rule(RuleFault::OutOfRange));
-    }
-    match act(action, x) {
-        None => Some(TowerFault::Unfit(floor)),
-        Some(_) => None,
+    match direction {
+        Direction::Forward => Some((numbers.lo, numbers.hi)),
+        Direction::Backward => numbers.inverse,
     }
 }
 
-// The numbers of a floor.
-pub(crate) fn floor_numbers<T: Tower>(below: &T, action: Action) -> Numbers
-    ensures { result ≡ numbers_of (floor_or action (T.Tower.tower below.now)) }
+// The numbers that an action packs, if it packs: reduction shifts them first.
+fn packed_numbers(action: Action, below: TowerNumbers) -> Numbers
+    ensures { result ≡ packed_numbers action below.numbers }
 {
-    let x = below.numbers();
-    act(action, x).unwrap_or(x)
+    match action {
+        Action::Reduce => below.shifted_to_zero(),
+        _ => below.numbers,
+    }
 }
 
-// The place after m cells of `block` digits each are packed into one.
-fn packed_place(place: Place, m: u32, block: u32) -> Place
-    requires { (1 ≤ m) × ((m ≤ 16) × ((block ≤ 65536) × (place.digit < block))) }
-    ensures { result ≡ packed_place m block place }
+// The place after cells of `digits` digits each are packed into blocks.
+fn packed_place(place: Place, block: Block, digits: u32) -> Place
+    requires { place.digit < digits }
+    ensures { result ≡ packed_place block.cells digits place }
 {
-    let cells = m as usize;
+    let cells = block.cells as usize;
     Place {
         cell: place.cell / cells,
-        digit: place.cell % cells * block as usize + place.digit,
+        digit: place.cell % cells * digits as usize + place.digit,
     }
 }
 
@@ -144,37 +175,20 @@ fn mirrored_place(place: Place, cells: usize) -> Place
     }
 }
 
-// The place after an action on a tower with the numbers x, for a bottom ring of n cells.
-fn moved_place(action: Action, x: Numbers, n: usize, place: Place) -> Place
-    requires numbers { (Workable x) × (1 ≤ x.block) }
-    requires fit { (in_range action && fits action x) ≡ true }
-    requires inside { (place.cell < n / x.block) × (place.digit < x.block) }
-    ensures { result ≡ moved_place action x n place }
+// The place after an action on a tower with these numbers, for a bottom ring of n cells.
+fn moved_place(action: Action, below: TowerNumbers, n: usize, place: Place) -> Place
+    requires fit { (in_range action && fits action below.numbers) ≡ true }
+    requires inside { (place.cell < n / below.numbers.block) × (place.digit < below.numbers.block) }
+    ensures { result ≡ moved_place action below.numbers n place }
 {
+    let digits = below.numbers.block;
     match action {
         Action::Unchanged | Action::Iterate(_) | Action::Shift(_) => place,
-        Action::Pack(m) => packed_place(place, m, x.block),
-        Action::Mirror => mirrored_place(place, n / x.block as usize),
-        Action::Reduce => packed_place(place, reduced_block(x), x.block),
+        Action::Pack(cells) => packed_place(place, Block { cells }, digits),
+        Action::Mirror => mirrored_place(place, n / digits as usize),
+        Action::Reduce => {
+            let cells = below.reduced_block();
+            packed_place(place, Block { cells }, digits)
+        }
     }
-}
-
-// Where the cell j of a bottom ring of n cells stands in the ring that a floor encodes.
-pub(crate) fn floor_place<T: Tower>(
-    below: &T,
-    action: Action,
-    n: usize,
-    j: usize,
-) -> Result<Place, TowerFault>
-    ensures { result ≡ place_answer (floor_or action (T.Tower.tower below.now)) n j }
-{
-    let x = below.numbers();
-    let Some(after) = act(action, x) else {
-        return below.place(n, j);
-    };
-    if n > 0 && n % after.block as usize != 0 {
-        return Err(TowerFault::Ragged);
-    }
-    let place = below.place(n, j)?;
-    Ok(moved_place(action, x, n, place))
 }

@@ -2,10 +2,9 @@
 #![tactic(auto)]
 
 mod action;
-mod answer;
-mod apply;
+mod directed;
 mod floor;
 mod numbers;
 
 pub use action::Action;
-pub use floor::{Floor, Unbuilt};
+pub use floor::Floor;

@@ -1,15 +1,21 @@
 // What an action makes of the numbers of a tower.
-ghost use Rattle.std.specs.Prelude.{◌≡◌, ◌≤◌, pos, ◌+ℤ◌, ◌*ℤ◌, neg_ℤ, unsigned_abs};
+ghost use Rattle.std.specs.Prelude.{◌≡◌, ◌≤◌, neg_ℤ, ◌*ℤ◌, ◌+ℤ◌, pos, unsigned_abs};
 ghost use Rattle.std.specs.Option.{option_map};
+ghost use Rattle.std.proofs.Props.{props};
 ghost use Rattle.rings.specs.Integers.{floor_mod};
-ghost use Rattle.floors.specs.declared.action.Action.TheVariants.{Reduce};
+ghost use Rattle.rings.specs.Refusals.{outcome};
+ghost use Rattle.towers.specs.Numbers.{numbers_of};
 ghost use Rattle.towers.specs.Towers.{signed};
-ghost use Rattle.floors.specs.Actions.{iterate_ends, shift_ends, mirror_ends, pack_ends, iterate_numbers, shift_numbers, mirror_numbers, pack_numbers, reduced_block, in_range, ends_fit, inverse_fits, intervals_fit, within_limits};
-ghost use Rattle.floors.specs.Acting.{LawfulEnds, LawfulInverse, Packable, Workable, limited, acted};
+ghost use Rattle.floors.specs.declared.action.Action.TheVariants.{Reduce};
+ghost use Rattle.floors.specs.Actions.{iterate_ends, shift_ends, mirror_ends, pack_ends, iterate_numbers, shift_numbers, mirror_numbers, pack_numbers, reduced_block, ends_fit, inverse_fits, intervals_fit, within_limits};
+ghost use Rattle.floors.specs.Acting.{LawfulEnds, Workable, limited, acted};
+ghost use Rattle.floors.specs.Floors.{floor_fault};
 
 use crate::Action;
+use crate::action::MAX_ARGUMENT;
 use rings::{MAX_END, MAX_STATES, MAX_WIDTH, MIN_END, interval_width, power_within};
-use towers::Numbers;
+use rules::RuleFault;
+use towers::{Numbers, Tower, TowerFault};
 
 const MAX_BLOCK: u32 = 65_536;
 
@@ -17,34 +23,228 @@ const MAX_STEPS: u32 = 65_536;
 
 const MAX_DRIFT: u32 = 16_777_216;
 
-const MAX_ARGUMENT: u32 = 16;
+// How many cells are packed into one.
+#[derive(Clone, Copy)]
+pub(crate) struct Block {
+    pub cells: u32,
+    ghost some: { 1 ≤ cells },
+    ghost few: { cells ≤ 16 },
+}
 
-// The numbers after an action, if its argument is in range and its outcome fits.
-pub(crate) fn act(action: Action, x: Numbers) -> Option<Numbers>
-    requires { Workable x }
-    ensures { result ≡ acted action x }
-{
-    if !is_in_range(action) {
-        return None;
-    }
-    match action {
-        Action::Unchanged => limit(x),
-        Action::Pack(m) => pack(x, m),
-        Action::Iterate(u) => limit(iterate(x, u)),
-        Action::Shift(s) => limit(shift(x, s)),
-        Action::Mirror => limit(mirror(x)),
-        Action::Reduce => reduce(x),
+impl Block {
+    // In which cell of its block a cell stands.
+    pub fn offset(self, cell: i32) -> usize
+        ensures { result ≡ floor_mod cell self.cells }
+    {
+        cell.rem_euclid(self.cells as i32) as usize
     }
 }
 
-// The argument of an action is in its range.
-pub(crate) fn is_in_range(action: Action) -> bool
-    ensures { result ≡ in_range action }
-{
-    match action {
-        Action::Pack(m) | Action::Iterate(m) => m >= 1 && m <= MAX_ARGUMENT,
-        Action::Shift(s) => s.unsigned_abs() <= MAX_ARGUMENT,
-        Action::Unchanged | Action::Mirror | Action::Reduce => true,
+// An interval that keeps the laws of a rule.
+#[derive(Clone, Copy)]
+struct Interval {
+    lo: i32,
+    hi: i32,
+    ghost lawful: { LawfulEnds lo hi } by { Prim.hlevel props },
+}
+
+impl Interval {
+    // The ends after this many steps at once.
+    fn iterated(self, times: u32) -> (i32, i32)
+        requires { times ≤ 16 }
+        ensures { result ≡ iterate_ends times (self.lo, self.hi) }
+    {
+        (self.lo * times as i32, self.hi * times as i32)
+    }
+
+    // The ends moved by s cells.
+    fn shifted(self, s: i32) -> (i32, i32)
+        requires { unsigned_abs s ≤ 128 }
+        ensures { result ≡ shift_ends s (self.lo, self.hi) }
+    {
+        (self.lo + s, self.hi + s)
+    }
+
+    // The ends seen in a mirror.
+    fn mirrored(self) -> (i32, i32)
+        ensures { result ≡ mirror_ends (self.lo, self.hi) }
+    {
+        (-self.hi, -self.lo)
+    }
+
+    // The ends on blocks.
+    fn packed(self, block: Block) -> (i32, i32)
+        ensures { result ≡ pack_ends block.cells (self.lo, self.hi) }
+    {
+        let cells = block.cells as i32;
+        (
+            self.lo.div_euclid(cells),
+            (cells - 1 + self.hi).div_euclid(cells),
+        )
+    }
+}
+
+// The numbers of a tower, which an action can act on.
+#[derive(Clone, Copy)]
+pub(crate) struct TowerNumbers {
+    pub numbers: Numbers,
+    ghost workable: { Workable numbers } by { Prim.hlevel props },
+}
+
+impl TowerNumbers {
+    pub fn of<T: Tower>(tower: &T) -> TowerNumbers
+        ensures { result.numbers ≡ numbers_of (T.Tower.tower tower.now) }
+    {
+        TowerNumbers {
+            numbers: tower.numbers(),
+        }
+    }
+
+    // Refuses an action that is out of range or does not fit, for the floor with this number.
+    pub fn check_action(self, action: Action, floor: usize) -> Result<(), TowerFault>
+        ensures { result ≡ outcome (floor_fault action self.numbers floor) }
+    {
+        if !action.is_in_range() {
+            return Err(TowerFault::Rule(RuleFault::OutOfRange));
+        }
+        self.act(action).ok_or(TowerFault::Unfit(floor))?;
+        Ok(())
+    }
+
+    // The numbers after an action, if its argument is in range and its outcome fits.
+    pub fn act(self, action: Action) -> Option<Numbers>
+        ensures { result ≡ acted action self.numbers }
+    {
+        if !action.is_in_range() {
+            return None;
+        }
+        match action {
+            Action::Unchanged => limit(self.numbers),
+            Action::Pack(cells) => self.packed(Block { cells }),
+            Action::Iterate(times) => limit(self.iterated(times)),
+            Action::Shift(s) => limit(self.shifted(s)),
+            Action::Mirror => limit(self.mirrored()),
+            Action::Reduce => self.reduced(),
+        }
+    }
+
+    fn interval(self) -> Interval
+        ensures { (result.lo ≡ self.numbers.lo) × (result.hi ≡ self.numbers.hi) }
+    {
+        Interval {
+            lo: self.numbers.lo,
+            hi: self.numbers.hi,
+        }
+    }
+
+    // The interval of the inverse, if there is one.
+    fn inverse(self) -> Option<Interval>
+        ensures { option_map (λ i. (i.lo, i.hi)) result ≡ self.numbers.inverse }
+    {
+        self.numbers.inverse.map(
+            |(lo, hi)|
+                requires { LawfulEnds lo hi }
+            { Interval { lo, hi } },
+        )
+    }
+
+    // The numbers of this many steps at once.
+    fn iterated(self, times: u32) -> Numbers
+        requires { times ≤ 16 }
+        ensures { result ≡ iterate_numbers times self.numbers }
+    {
+        let (lo, hi) = self.interval().iterated(times);
+        let inverse = self.inverse().map(|interval| interval.iterated(times));
+        Numbers {
+            lo,
+            hi,
+            inverse,
+            steps: self.numbers.steps * times,
+            drift: self.numbers.drift * times as i32,
+            ..self.numbers
+        }
+    }
+
+    // 1, or -1 in a mirrored tower.
+    fn sign(self) -> i32
+        ensures { result ≡ signed self.numbers.mirrored (pos 1) }
+    {
+        if self.numbers.mirrored { -1 } else { 1 }
+    }
+
+    // The numbers of a step and a rotation by s cells.
+    fn shifted(self, s: i32) -> Numbers
+        requires { unsigned_abs s ≤ 128 }
+        ensures { result ≡ shift_numbers s self.numbers }
+    {
+        let (lo, hi) = self.interval().shifted(s);
+        let inverse = self.inverse().map(|interval| interval.shifted(-s));
+        Numbers {
+            lo,
+            hi,
+            inverse,
+            drift: self.numbers.drift + self.sign() * s * self.numbers.block as i32,
+            ..self.numbers
+        }
+    }
+
+    // The numbers shifted so that the interval begins at 0.
+    pub fn shifted_to_zero(self) -> Numbers
+        ensures { result ≡ shift_numbers (neg_ℤ self.numbers.lo) self.numbers }
+    {
+        self.shifted(-self.numbers.lo)
+    }
+
+    // The numbers seen in a mirror.
+    fn mirrored(self) -> Numbers
+        ensures { result ≡ mirror_numbers self.numbers }
+    {
+        let (lo, hi) = self.interval().mirrored();
+        let inverse = self.inverse().map(|interval| interval.mirrored());
+        Numbers {
+            lo,
+            hi,
+            inverse,
+            mirrored: !self.numbers.mirrored,
+            ..self.numbers
+        }
+    }
+
+    // The numbers on blocks, if they are within their limits.
+    fn packed(self, block: Block) -> Option<Numbers>
+        ensures { result ≡ limited (pack_numbers block.cells self.numbers) }
+    {
+        let states = power_within(self.numbers.states, block.cells, MAX_STATES)?;
+        let (lo, hi) = self.interval().packed(block);
+        let inverse = self.inverse().map(|interval| interval.packed(block));
+        limit(Numbers {
+            states,
+            lo,
+            hi,
+            inverse,
+            block: self.numbers.block * block.cells,
+            ..self.numbers
+        })
+    }
+
+    // How many cells reduction packs into one: the width less one, and at least one.
+    pub fn reduced_block(self) -> u32
+        ensures { result ≡ reduced_block self.numbers }
+    {
+        (interval_width(self.numbers.lo, self.numbers.hi) as u32 - 1).max(1)
+    }
+
+    // The numbers shifted so that the interval begins at 0 and then packed so that it has at most two cells, if they are within their
+    // limits.
+    fn reduced(self) -> Option<Numbers>
+        ensures { result ≡ acted Reduce self.numbers }
+    {
+        let numbers = limit(self.shifted_to_zero())?;
+        let cells = self.reduced_block();
+        if cells > MAX_ARGUMENT {
+            return None;
+        }
+        TowerNumbers { numbers }.packed(Block { cells })
     }
 }
 
@@ -59,231 +259,30 @@ fn ends_fit(lo: i32, hi: i32) -> bool
 fn inverse_fits(inverse: Option<(i32, i32)>) -> bool
     ensures { result ≡ inverse_fits inverse }
 {
-    match inverse {
-        None => true,
-        Some((lo, hi)) => ends_fit(lo, hi),
-    }
+    inverse.is_none_or(|(lo, hi)| ends_fit(lo, hi))
 }
 
 // Both intervals keep the laws of a rule.
-fn intervals_fit(x: Numbers) -> bool
-    ensures { result ≡ intervals_fit x }
+fn intervals_fit(numbers: Numbers) -> bool
+    ensures { result ≡ intervals_fit numbers }
 {
-    ends_fit(x.lo, x.hi) && inverse_fits(x.inverse)
+    ends_fit(numbers.lo, numbers.hi) && inverse_fits(numbers.inverse)
 }
 
 // All numbers are within their limits.
-fn within_limits(x: Numbers) -> bool
-    ensures { result ≡ within_limits x }
+fn within_limits(numbers: Numbers) -> bool
+    ensures { result ≡ within_limits numbers }
 {
-    x.states <= MAX_STATES
-        && intervals_fit(x)
-        && x.block <= MAX_BLOCK
-        && x.steps <= MAX_STEPS
-        && x.drift.unsigned_abs() <= MAX_DRIFT
+    numbers.states <= MAX_STATES
+        && intervals_fit(numbers)
+        && numbers.block <= MAX_BLOCK
+        && numbers.steps <= MAX_STEPS
+        && numbers.drift.unsigned_abs() <= MAX_DRIFT
 }
 
 // The numbers, if they are within their limits.
-fn limit(x: Numbers) -> Option<Numbers>
-    ensures { result ≡ limited x }
+fn limit(numbers: Numbers) -> Option<Numbers>
+    ensures { result ≡ limited numbers }
 {
-    if within_limits(x) { Some(x) } else { None }
-}
-
-// The ends of an interval after this many steps at once.
-fn iterate_ends(ends: (i32, i32), u: u32) -> (i32, i32)
-    requires { (LawfulEnds ends.0 ends.1) × (u ≤ 16) }
-    ensures { result ≡ iterate_ends u ends }
-{
-    (ends.0 * u as i32, ends.1 * u as i32)
-}
-
-// The ends of an inverse's interval after this many steps at once.
-fn iterate_inverse(inverse: Option<(i32, i32)>, u: u32) -> Option<(i32, i32)>
-    requires { (LawfulInverse inverse) × (u ≤ 16) }
-    ensures { result ≡ option_map (iterate_ends u) inverse }
-{
-    Some(iterate_ends(inverse?, u))
-}
-
-// The drift of this many steps at once.
-fn iterate_drift(drift: i32, u: u32) -> i32
-    requires { (unsigned_abs drift ≤ 16777216) × (u ≤ 16) }
-    ensures { result ≡ drift *ℤ pos u }
-{
-    drift * u as i32
-}
-
-// The numbers of this many steps at once.
-fn iterate(x: Numbers, u: u32) -> Numbers
-    requires { (Workable x) × (u ≤ 16) }
-    ensures { result ≡ iterate_numbers u x }
-{
-    let (lo, hi) = iterate_ends((x.lo, x.hi), u);
-    let inverse = iterate_inverse(x.inverse, u);
-    Numbers {
-        lo,
-        hi,
-        inverse,
-        steps: x.steps * u,
-        drift: iterate_drift(x.drift, u),
-        ..x
-    }
-}
-
-// The ends of an interval moved by s cells.
-pub(crate) fn shift_ends(ends: (i32, i32), s: i32) -> (i32, i32)
-    requires { (LawfulEnds ends.0 ends.1) × (unsigned_abs s ≤ 128) }
-    ensures { result ≡ shift_ends s ends }
-{
-    (ends.0 + s, ends.1 + s)
-}
-
-// The ends of the interval of an inverse, moved back by s cells.
-fn shift_inverse(inverse: Option<(i32, i32)>, s: i32) -> Option<(i32, i32)>
-    requires { (LawfulInverse inverse) × (unsigned_abs s ≤ 128) }
-    ensures { result ≡ option_map (shift_ends (neg_ℤ s)) inverse }
-{
-    Some(shift_ends(inverse?, -s))
-}
-
-// s, or -s in a mirrored tower.
-fn turn(mirrored: bool, s: i32) -> i32
-    requires { unsigned_abs s ≤ 128 }
-    ensures value { result ≡ signed mirrored s }
-    ensures small { unsigned_abs result ≤ 128 }
-{
-    if mirrored { -s } else { s }
-}
-
-// The drift after a rotation by s cells of `block` bottom cells each.
-fn shift_drift(drift: i32, s: i32, block: u32) -> i32
-    requires { (unsigned_abs drift ≤ 16777216) × ((unsigned_abs s ≤ 128) × (block ≤ 65536)) }
-    ensures { result ≡ drift +ℤ s *ℤ pos block }
-{
-    drift + s * block as i32
-}
-
-// The numbers of a step and a rotation by s cells.
-fn shift(x: Numbers, s: i32) -> Numbers
-    requires { (Workable x) × (unsigned_abs s ≤ 128) }
-    ensures { result ≡ shift_numbers s x }
-{
-    let (lo, hi) = shift_ends((x.lo, x.hi), s);
-    let inverse = shift_inverse(x.inverse, s);
-    Numbers {
-        lo,
-        hi,
-        inverse,
-        drift: shift_drift(x.drift, turn(x.mirrored, s), x.block),
-        ..x
-    }
-}
-
-// The ends of an interval seen in a mirror.
-fn mirror_ends(ends: (i32, i32)) -> (i32, i32)
-    requires { LawfulEnds ends.0 ends.1 }
-    ensures { result ≡ mirror_ends ends }
-{
-    (-ends.1, -ends.0)
-}
-
-// The ends of the interval of an inverse, seen in a mirror.
-fn mirror_inverse(inverse: Option<(i32, i32)>) -> Option<(i32, i32)>
-    requires { LawfulInverse inverse }
-    ensures { result ≡ option_map mirror_ends inverse }
-{
-    Some(mirror_ends(inverse?))
-}
-
-// The numbers seen in a mirror.
-fn mirror(x: Numbers) -> Numbers
-    requires { Workable x }
-    ensures { result ≡ mirror_numbers x }
-{
-    let (lo, hi) = mirror_ends((x.lo, x.hi));
-    let inverse = mirror_inverse(x.inverse);
-    Numbers {
-        lo,
-        hi,
-        inverse,
-        mirrored: !x.mirrored,
-        ..x
-    }
-}
-
-// The ends of an interval on blocks of m cells.
-pub(crate) fn pack_ends(ends: (i32, i32), m: u32) -> (i32, i32)
-    requires { (LawfulEnds ends.0 ends.1) × ((1 ≤ m) × (m ≤ 16)) }
-    ensures { result ≡ pack_ends m ends }
-{
-    let block = m as i32;
-    (
-        ends.0.div_euclid(block),
-        (block - 1 + ends.1).div_euclid(block),
-    )
-}
-
-// The ends of the interval of an inverse, on blocks of m cells.
-fn pack_inverse(inverse: Option<(i32, i32)>, m: u32) -> Option<(i32, i32)>
-    requires { (LawfulInverse inverse) × ((1 ≤ m) × (m ≤ 16)) }
-    ensures { result ≡ option_map (pack_ends m) inverse }
-{
-    Some(pack_ends(inverse?, m))
-}
-
-// The numbers on blocks of m cells, if they are within their limits.
-fn pack(x: Numbers, m: u32) -> Option<Numbers>
-    requires { (Packable x) × ((1 ≤ m) × (m ≤ 16)) }
-    ensures { result ≡ limited (pack_numbers m x) }
-{
-    let states = power_within(x.states, m, MAX_STATES)?;
-    let (lo, hi) = pack_ends((x.lo, x.hi), m);
-    let inverse = pack_inverse(x.inverse, m);
-    limit(Numbers {
-        states,
-        lo,
-        hi,
-        inverse,
-        block: x.block * m,
-        ..x
-    })
-}
-
-// How many cells reduction packs into one: the width less one, and at least one.
-pub(crate) fn reduced_block(x: Numbers) -> u32
-    requires { Workable x }
-    ensures { result ≡ reduced_block x }
-{
-    (interval_width(x.lo, x.hi) as u32 - 1).max(1)
-}
-
-// The numbers shifted so that the interval begins at 0.
-fn shift_to_zero(x: Numbers) -> Numbers
-    requires { Workable x }
-    ensures { result ≡ shift_numbers (neg_ℤ x.lo) x }
-{
-    shift(x, -x.lo)
-}
-
-// The numbers shifted so that the interval begins at 0 and then packed so that it has at most two cells, if they are within their
-// limits.
-fn reduce(x: Numbers) -> Option<Numbers>
-    requires { Workable x }
-    ensures { result ≡ acted Reduce x }
-{
-    let block = reduced_block(x);
-    let shifted = shift_to_zero(x);
-    if block > MAX_ARGUMENT || !intervals_fit(shifted) {
-        return None;
-    }
-    pack(shifted, block)
-}
-
-// The remainder of an end by m, from 0 on.
-pub(crate) fn end_modulo(z: i32, m: u32) -> usize
-    requires { (1 ≤ m) × (m ≤ 16) }
-    ensures { result ≡ floor_mod z m }
-{
-    z.rem_euclid(m as i32) as usize
+    within_limits(numbers).then_some(numbers)
 }

@@ -115,13 +115,13 @@ fn a_floor_that_does_not_fit_brings_the_tower_back(rt: HostRuntime) -> Result<()
     };
     assert_eq!(rt; refused.fault.number(), 11);
     assert_eq!(rt; refused.fault.place(), 2);
-    let numbers = refused.below.numbers();
+    let numbers = refused.given.numbers();
     assert_eq!(rt; numbers.states, 65_536);
     assert_eq!(rt; numbers.lo, -1);
     assert_eq!(rt; numbers.hi, 1);
     assert_eq!(rt; numbers.block, 16);
     // a floor that is put over it all the same does nothing
-    let same = Floor::over(refused.below, Action::Pack(16)).numbers();
+    let same = Floor::over(refused.given, Action::Pack(16)).numbers();
     assert_eq!(rt; same.states, 65_536);
     assert_eq!(rt; same.lo, -1);
     assert_eq!(rt; same.hi, 1);

@@ -1,0 +1,130 @@
+// A rule in one direction, applied to the windows that a floor makes: of many steps, of blocks, and seen in a mirror.
+ghost use Rattle.std.specs.Prelude.{◌≡◌, ◌+◌, ◌-◌, ◌*◌, ◌<◌, ◌≤◌, length, take};
+ghost use Rattle.std.specs.Option.{option_map};
+ghost use Rattle.std.proofs.Props.{props};
+ghost use Rattle.rings.specs.Integers.{floor_mod};
+ghost use Rattle.rings.specs.Line.{tabulate};
+ghost use Rattle.rings.specs.Ring.{Codes};
+ghost use Rattle.rings.specs.Automaton.{toward};
+ghost use Rattle.rings.specs.Packing.{digit, unblocks};
+ghost use Rattle.rings.specs.Transformations.{map_list_windows, iterate_local, mirror_local, pack_value};
+ghost use Rattle.rules.specs.Steps.{value_of, Reads};
+ghost use Rattle.floors.specs.Asking.{HasWidth, Packing};
+
+use crate::numbers::Block;
+use rings::{Direction, MAX_WIDTH};
+use rules::Rule;
+
+// Room for the digits of the widest window: 64 cells of 16 digits.
+const MAX_DIGITS: usize = 1024;
+
+// A rule in a direction in which it goes, with its number of states and the width of its windows.
+#[derive(Drop)]
+pub(crate) struct DirectedRule<'a, R: Rule> {
+    pub rule: &'a R,
+    pub direction: Direction,
+    pub states: u32,
+    pub width: usize,
+    ghost same: { states ≡ (R.Rule.meaning rule.now).states },
+    ghost wide: { HasWidth (toward direction (R.Rule.meaning rule.now)) width } by { Prim.hlevel props },
+}
+
+impl<R: Rule> DirectedRule<'_, R> {
+    // The code at a window of the rule's own.
+    pub fn apply(&self, window: &[u32]) -> u32
+        requires { Reads self.now.states (toward self.now.direction (R.Rule.meaning self.now.rule.now)) window.now }
+        ensures value { result ≡ value_of (toward self.now.direction (R.Rule.meaning self.now.rule.now)) window.now }
+        ensures below { result < self.now.states }
+    {
+        self.rule.step(self.direction, window).unwrap_or(0)
+    }
+
+    // Puts the next row, which is width - 1 cells shorter, in place of the first cells of a row.
+    fn advance(&self, row: &mut [u32])
+        requires fits { self.now.width ≤ length row.old }
+        requires codes { Codes self.now.states row.old }
+        ensures { take (length row.old + 1 - self.now.width) row.new ≡ map_list_windows (value_of (toward self.now.direction (R.Rule.meaning self.now.rule.now))) self.now.width row.old }
+    {
+        for i in 0..row.len() + 1 - self.width {
+            row[i] = self.apply(&row[i..i + self.width]);
+        }
+    }
+
+    // The code at a window of `times` steps.
+    pub fn iterated(&self, times: u32, window: &[u32]) -> u32
+        requires reads { Reads self.now.states (option_map (iterate_local times) (toward self.now.direction (R.Rule.meaning self.now.rule.now))) window.now }
+        requires short { length window.now ≤ 64 }
+        ensures { result ≡ value_of (option_map (iterate_local times) (toward self.now.direction (R.Rule.meaning self.now.rule.now))) window.now }
+    {
+        let mut row = row_of(window);
+        for left in (0..times as usize).rev() {
+            self.advance(&mut row[0..(left + 1) * (self.width - 1) + 1]);
+        }
+        row[0]
+    }
+
+    // The code at a window seen in a mirror.
+    pub fn mirrored(&self, window: &[u32]) -> u32
+        requires { Reads self.now.states (option_map mirror_local (toward self.now.direction (R.Rule.meaning self.now.rule.now))) window.now }
+        ensures { result ≡ value_of (option_map mirror_local (toward self.now.direction (R.Rule.meaning self.now.rule.now))) window.now }
+    {
+        let mut row = row_of(window);
+        let turned = &mut row[0..window.len()];
+        turned.reverse();
+        self.apply(turned)
+    }
+
+    // The code at a window of blocks, where the rule's interval begins at the cell lo.
+    pub fn packed(&self, block: Block, lo: i32, window: &[u32]) -> u32
+        requires { Packing self.now.states block.cells lo self.now.width (length window.now) }
+        ensures { result ≡ pack_value self.now.states block.cells (value_of (toward self.now.direction (R.Rule.meaning self.now.rule.now))) (floor_mod lo block.cells) self.now.width window.now }
+    {
+        let digits = unpack(window, self.states, block);
+        let skip = block.offset(lo);
+        let cells = &digits[skip..skip + block.cells as usize - 1 + self.width];
+        let mut code = 0;
+        let mut weight = 1;
+        for window in cells.windows(self.width) {
+            code += self.apply(window) * weight;
+            weight *= self.states;
+        }
+        code
+    }
+}
+
+// The window at the front of a row.
+fn row_of(window: &[u32]) -> [u32; MAX_WIDTH]
+    requires { length window.now ≤ 64 }
+    ensures { take (length window.now) result ≡ window.now }
+{
+    let mut row = [0; MAX_WIDTH];
+    row[0..window.len()].copy_from_slice(window);
+    row
+}
+
+// Writes the lowest digits of a code in the base `states`, as many as there are cells.
+fn write_digits(code: u32, states: u32, cells: &mut [u32])
+    requires { 1 ≤ states }
+    ensures { cells.new ≡ tabulate (digit states code) (length cells.old) }
+{
+    let mut rest = code;
+    for cell in cells.iter_mut() {
+        *cell = rest % states;
+        rest /= states;
+    }
+}
+
+// The digits of each code of a window, one code after the other, at the front of room for the widest window.
+fn unpack(window: &[u32], states: u32, block: Block) -> [u32; MAX_DIGITS]
+    requires some { 1 ≤ states }
+    requires room { length window.now * block.cells ≤ 1024 }
+    ensures { take (length window.now * block.cells) result ≡ unblocks states block.cells window.now }
+{
+    let size = block.cells as usize;
+    let mut digits = [0; MAX_DIGITS];
+    for (i, code) in window.iter().enumerate() {
+        let start = i * size;
+        write_digits(*code, states, &mut digits[start..start + size]);
+    }
+    digits
+}
