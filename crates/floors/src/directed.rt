@@ -31,7 +31,7 @@ pub(crate) struct DirectedRule<'a, R: Rule> {
 
 impl<R: Rule> DirectedRule<'_, R> {
     // The code at a window of the rule's own.
-    pub fn apply(&self, window: &[u32]) -> u32
+    pub(crate) fn apply(&self, window: &[u32]) -> u32
         requires { Reads self.now.states (toward self.now.direction (R.Rule.meaning self.now.rule.now)) window.now }
         ensures value { result ≡ value_of (toward self.now.direction (R.Rule.meaning self.now.rule.now)) window.now }
         ensures below { result < self.now.states }
@@ -51,7 +51,7 @@ impl<R: Rule> DirectedRule<'_, R> {
     }
 
     // The code at a window of `times` steps.
-    pub fn iterated(&self, times: u32, window: &[u32]) -> u32
+    pub(crate) fn iterated(&self, times: u32, window: &[u32]) -> u32
         requires reads { Reads self.now.states (option_map (iterate_local times) (toward self.now.direction (R.Rule.meaning self.now.rule.now))) window.now }
         requires short { length window.now ≤ 64 }
         ensures { result ≡ value_of (option_map (iterate_local times) (toward self.now.direction (R.Rule.meaning self.now.rule.now))) window.now }
@@ -64,7 +64,7 @@ impl<R: Rule> DirectedRule<'_, R> {
     }
 
     // The code at a window seen in a mirror.
-    pub fn mirrored(&self, window: &[u32]) -> u32
+    pub(crate) fn mirrored(&self, window: &[u32]) -> u32
         requires { Reads self.now.states (option_map mirror_local (toward self.now.direction (R.Rule.meaning self.now.rule.now))) window.now }
         ensures { result ≡ value_of (option_map mirror_local (toward self.now.direction (R.Rule.meaning self.now.rule.now))) window.now }
     {
@@ -75,7 +75,7 @@ impl<R: Rule> DirectedRule<'_, R> {
     }
 
     // The code at a window of blocks, where the rule's interval begins at the cell lo.
-    pub fn packed(&self, block: Block, lo: i32, window: &[u32]) -> u32
+    pub(crate) fn packed(&self, block: Block, lo: i32, window: &[u32]) -> u32
         requires { Packing self.now.states block.cells lo self.now.width (length window.now) }
         ensures { result ≡ pack_value self.now.states block.cells (value_of (toward self.now.direction (R.Rule.meaning self.now.rule.now))) (floor_mod lo block.cells) self.now.width window.now }
     {

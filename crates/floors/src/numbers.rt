@@ -33,7 +33,7 @@ pub(crate) struct Block {
 
 impl Block {
     // In which cell of its block a cell stands.
-    pub fn offset(self, cell: i32) -> usize
+    pub(crate) fn offset(self, cell: i32) -> usize
         ensures { result ≡ floor_mod cell self.cells }
     {
         cell.rem_euclid(self.cells as i32) as usize
@@ -92,7 +92,7 @@ pub(crate) struct TowerNumbers {
 }
 
 impl TowerNumbers {
-    pub fn of<T: Tower>(tower: &T) -> TowerNumbers
+    pub(crate) fn of<T: Tower>(tower: &T) -> TowerNumbers
         ensures { result.numbers ≡ numbers_of (T.Tower.tower tower.now) }
     {
         TowerNumbers {
@@ -101,7 +101,7 @@ impl TowerNumbers {
     }
 
     // Refuses an action that is out of range or does not fit, for the floor with this number.
-    pub fn check_action(self, action: Action, floor: usize) -> Result<(), TowerFault>
+    pub(crate) fn check_action(self, action: Action, floor: usize) -> Result<(), TowerFault>
         ensures { result ≡ outcome (floor_fault action self.numbers floor) }
     {
         if !action.is_in_range() {
@@ -112,7 +112,7 @@ impl TowerNumbers {
     }
 
     // The numbers after an action, if its argument is in range and its outcome fits.
-    pub fn act(self, action: Action) -> Option<Numbers>
+    pub(crate) fn act(self, action: Action) -> Option<Numbers>
         ensures { result ≡ acted action self.numbers }
     {
         if !action.is_in_range() {
@@ -189,7 +189,7 @@ impl TowerNumbers {
     }
 
     // The numbers shifted so that the interval begins at 0.
-    pub fn shifted_to_zero(self) -> Numbers
+    pub(crate) fn shifted_to_zero(self) -> Numbers
         ensures { result ≡ shift_numbers (neg_ℤ self.numbers.lo) self.numbers }
     {
         self.shifted(-self.numbers.lo)
@@ -228,7 +228,7 @@ impl TowerNumbers {
     }
 
     // How many cells reduction packs into one: the width less one, and at least one.
-    pub fn reduced_block(self) -> u32
+    pub(crate) fn reduced_block(self) -> u32
         ensures { result ≡ reduced_block self.numbers }
     {
         (interval_width(self.numbers.lo, self.numbers.hi) as u32 - 1).max(1)

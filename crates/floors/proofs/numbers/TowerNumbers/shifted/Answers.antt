@@ -42,4 +42,3 @@ returns c =
     ∙ ap (λ z. c.args.self.numbers.drift +ℤ z *ℤ pos c.args.self.numbers.block) (turn_is c.args.self.numbers.mirrored c.sign.result c.args.s c.sign.ensures c.requires) in
     let back2 = negation_is c.args.s c.requires in
     search rules
-
