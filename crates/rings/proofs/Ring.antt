@@ -161,5 +161,5 @@ pub stray_from_end : (i q : ℕ) (c : List ℕ) → length c ≤ i → stray_fro
 stray_from_end i q c h = at_drop_all (stray_from i q) c i h
 
 -- in a ring that has a cell
-pub cell_at-some : (z : ℤ) (n : ℕ) → 0 < n → cell_at z n ≡ floor_mod z n
+pub cell_at-some : (z : ℤ) (n : ℕ) → 0 < n → cell_at z n ≡ Some (floor_mod z n)
 cell_at-some z n h = rw (ne_eqb n 0 (λ e. omega (arith, e)))

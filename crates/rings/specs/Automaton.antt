@@ -1,9 +1,10 @@
 -- What a rule means: a cellular automaton, its laws, and its steps forward and back.
-use Rattle.std.specs.Prelude.{◌≡◌, ℕ, suc, ◌^◌, ◌≤◌, List, ℤ, pos, negsuc, neg_ℤ, ◌+ℤ◌, ◌≤ℤ◌, IfSome, IfNone, Some, None, Option}
+use Rattle.std.specs.Prelude.{◌≡◌, ℕ, suc, ◌≤◌, List, ℤ, pos, negsuc, neg_ℤ, ◌+ℤ◌, ◌≤ℤ◌, IfSome, IfNone, Some, None, Option}
 use Rattle.rings.specs.declared.Direction.{Direction}
 use Rattle.rings.specs.declared.Direction.TheVariants.{Forward, Backward}
 use Rattle.rings.specs.Line.{power}
 use Rattle.rings.specs.Ring.{Ring}
+use Rattle.rings.specs.Limits.{max_states, min_end, max_end, max_width}
 use Rattle.rings.specs.Local.{Local, width, ring_map, Closed, Undoes}
 
 -- The number of states, the local function, and the local function of the inverse if there is one.
@@ -14,13 +15,13 @@ pub record Automaton : Type 0 where
 
 -- The bounds of an interval.
 pub record Narrow (l : Local) : Type 0 where
-  pub low : negsuc 127 ≤ℤ l.lo
-  pub high : l.hi ≤ℤ pos 128
-  pub narrow : width l ≤ 64
+  pub low : min_end ≤ℤ l.lo
+  pub high : l.hi ≤ℤ max_end
+  pub narrow : width l ≤ max_width
 
 -- The bounds of an automaton's numbers.
 pub record Bounded (a : Automaton) : Type 0 where
-  pub few : a.states ≤ 2 ^ 24
+  pub few : a.states ≤ max_states
   pub forward : Narrow a.forward
   pub inverse : IfSome a.inverse Narrow
 

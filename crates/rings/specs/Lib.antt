@@ -2,6 +2,7 @@ pub mod Integers
 pub mod Line
 pub mod Ring
 pub mod Local
+pub mod Limits
 pub mod Automaton
 pub mod Packing
 pub mod Transformations

@@ -11,9 +11,9 @@ at c z = slice_index c (floor_mod z (length c))
 abbrev pub cut : ℕ → Line → List ℕ
 cut n x = window x (pos 0) n
 
--- The index of the cell that lies z cells after the first one of a ring of n cells; 0 where there is no cell.
-abbrev pub cell_at : ℤ → ℕ → ℕ
-cell_at z n = cond (n == 0) 0 (floor_mod z n)
+-- The index of the cell that lies z cells after the first one of a ring of n cells; none where there is no cell.
+abbrev pub cell_at : ℤ → ℕ → Option ℕ
+cell_at z n = cond (n == 0) None (Some (floor_mod z n))
 
 -- Every code of the list is below q.
 abbrev pub Codes : ℕ → List ℕ → Type 0

@@ -2,9 +2,13 @@
 #![tactic(auto)]
 
 ghost use Rattle.std.specs.Prelude.{◌≡◌};
+ghost use Rattle.rings.specs.Limits.{ends_fit};
 ghost use Rattle.rings.specs.Local.{span};
 ghost use Rattle.rings.specs.Numbers.{power_within};
 ghost use Rattle.rings.specs.Ring.{first_stray, IsFirstStray, cell_at};
+
+use std::error::Error;
+use std::fmt;
 
 // The most cells of a ring.
 pub const MAX_CELLS: usize = 2048;
@@ -26,7 +30,8 @@ pub enum Direction {
     Backward,
 }
 
-// The index of the first stray cell, one whose code is not below the number of states.
+// The index of the first stray cell, one whose code is not below the number of states. Users ask for this form, a loop that is left
+// with an index.
 pub fn first_stray(cells: &[u32], states: u32) -> Option<usize>
     ensures answer { result ≡ first_stray states cells.now }
     ensures law { IsFirstStray states cells.now result }
@@ -39,21 +44,28 @@ pub fn first_stray(cells: &[u32], states: u32) -> Option<usize>
     None
 }
 
-// The index of the cell that lies `offset` cells after the first one of a ring, round and round; 0 where there is no cell.
-pub fn cell_at(offset: i64, cells: usize) -> usize
+// The index of the cell that lies `offset` cells after the first one of a ring, round and round; none where there is no cell.
+pub fn cell_at(offset: i64, cells: usize) -> Option<usize>
     ensures { result ≡ cell_at offset cells }
 {
     if cells == 0 {
-        return 0;
+        return None;
     }
-    i128::from(offset).rem_euclid(cells as i128) as usize
+    Some(i128::from(offset).rem_euclid(cells as i128) as usize)
 }
 
 // How many cells an interval has, its ends given in either order.
 pub fn interval_width(lo: i32, hi: i32) -> usize
     ensures { result ≡ span lo hi }
 {
-    (hi as i64 - lo as i64).unsigned_abs() as usize + 1
+    hi.abs_diff(lo) as usize + 1
+}
+
+// Whether an interval with these ends, given in either order, is as narrow and as near as one of a rule.
+pub fn ends_fit(lo: i32, hi: i32) -> bool
+    ensures { result ≡ ends_fit lo hi }
+{
+    lo >= MIN_END && hi <= MAX_END && interval_width(lo, hi) <= MAX_WIDTH
 }
 
 // `base` to the power `exponent`, if that is at most `limit`.
@@ -69,3 +81,18 @@ pub struct Refused<T, F> {
     pub fault: F,
     pub given: T,
 }
+
+// Told as its fault, for what was given need not have a text.
+impl<T, F: fmt::Debug> fmt::Debug for Refused<T, F> {
+    fn fmt<W: fmt::Write>(&self, f: &mut fmt::Formatter<W>) -> fmt::Result {
+        self.fault.fmt(f)
+    }
+}
+
+impl<T, F: fmt::Display> fmt::Display for Refused<T, F> {
+    fn fmt<W: fmt::Write>(&self, f: &mut fmt::Formatter<W>) -> fmt::Result {
+        self.fault.fmt(f)
+    }
+}
+
+impl<T: Drop, F: Error> Error for Refused<T, F> {}
