@@ -1,5 +1,6 @@
 -- Lemmas on the map of a whole ring.
-use Rattle.std.proofs.Common.{◌≡◌, ℕ, ◌+◌, ◌<◌, ◌≤◌, Bool, true, false, cond, eqb, ltb, ◌≢◌, List, ◌++◌, length, get_or, take, drop, set, ℤ, pos, ◌+ℤ◌, ◌*ℤ◌, IfSome, Some, None, Ok, Option, sym, refl, ap, ◌∙◌, subst, ap₂, zero-add, arith, below_more}
+use Rattle.std.proofs.Common.{◌≡◌, ℕ, ◌+◌, ◌-◌, ◌<◌, ◌≤◌, Bool, true, false, cond, eqb, ltb, ◌≢◌, List, ◌++◌, length, get_or, take, drop, set, ℤ, pos, ◌+ℤ◌, ◌*ℤ◌, IfSome, Some, None, Ok, Option, Result, sym, refl, ap, ◌∙◌, subst, ap₂, zero-add, arith, below_more}
+use Rattle.std.specs.Option.{option_map}
 use Rattle.std.proofs.lemmas.List.{append-nil, drop_all, get_or-set_same, get_or-set_other}
 use Rattle.std.proofs.lemmas.Int.{ints}
 use Rattle.std.proofs.lemmas.Bool.{eqb-false, ltb-false}
@@ -7,19 +8,19 @@ use Rattle.rings.specs.declared.Direction.{Direction}
 use Rattle.rings.specs.declared.Direction.TheVariants.{Forward, Backward}
 use Rattle.rings.specs.Integers.{floor_div, floor_mod}
 use Rattle.rings.specs.Line.{tabulate, window, power}
-use Rattle.rings.specs.Ring.{at, Ring, Codes, first_stray, IsFirstStray}
+use Rattle.rings.specs.Ring.{at, cell_at, Ring, Codes, first_stray, IsFirstStray}
 use Rattle.rings.specs.Local.{Local, span, width, ring_map}
 use Rattle.rings.specs.Automaton.{Automaton, Lawful, Narrow, Proper, Inverse, toward}
 use Rattle.rings.proofs.Integers.{floor_div_mod, floor_mod_lt}
 use Rattle.rings.proofs.Line.{tabulate-same, window_same, part_of_window, periodic_times}
-use Rattle.rings.proofs.Ring.{periodic_at, below_at, is_first_stray}
+use Rattle.rings.proofs.Ring.{periodic_at, below_at, is_first_stray, cell_at-some}
 use Rattle.rings.proofs.Local.{length-window, codes-window, length-ring_map, ring_map-rotate}
 use Rattle.rules.specs.declared.fault.RuleFault.{RuleFault}
-use Rattle.rules.specs.declared.fault.RuleFault.TheVariants.{EmptyRing, LongRing, ShortBuffer, NoInverse}
+use Rattle.rules.specs.declared.fault.RuleFault.TheVariants.{EmptyRing, LongRing, StrayCode, ShortBuffer, NoInverse}
 use Rattle.rules.specs.Answers.{ends, answer}
 use Rattle.rings.specs.Refusals.{outcome, unless_refused}
-use Rattle.rules.specs.Maps.{stray_fault, ring_fault, map_fault, map_answer, image, written_over, map_buffer, StepLaw, StepLaws}
-use Rattle.rules.specs.Steps.{value_of, Reads, Placed, part}
+use Rattle.rules.specs.Maps.{ring_fault, map_fault, map_answer, image, written_over, map_buffer, StepLaw, StepLaws}
+use Rattle.rules.specs.Steps.{value_of, Reads, part}
 use Rattle.rules.specs.Windows.{checked_readable}
 
 -- the local function of a direction
@@ -35,13 +36,20 @@ usable Backward a l = by a.inverse l.sound.inverse l.bounded.inverse where
   by None i n = tt
   by (Some g) i n = (i.proper, n)
 
-pub placed_narrow : (q n : ℕ) (o : Option Local) (start w : ℕ) → Usable q o → Placed n o start w → w ≤ 64
-placed_narrow q n None start w u p = absurd p
-placed_narrow q n (Some l) start w u p = omega (arith, p.1, u.1.narrow)
+abbrev first : Option (ℤ × ℤ) → ℤ
+first None = pos 0
+first (Some p) = p.0
 
-pub placed_inside : (n : ℕ) (o : Option Local) (start w : ℕ) → 0 < n → Placed n o start w → start < n
-placed_inside n None start w h p = absurd p
-placed_inside n (Some l) start w h p = omega (arith, p.0, floor_mod_lt l.lo n h)
+abbrev second : Option (ℤ × ℤ) → ℤ
+second None = pos 0
+second (Some p) = p.1
+
+span_is : (l : Local) (lo hi : ℤ) → ends (Some l) ≡ Some (lo, hi) → width l ≡ span lo hi
+span_is l lo hi e = ap₂ span (ap first e) (ap second e)
+
+pub usable_narrow : (q : ℕ) (o : Option Local) (lo hi : ℤ) → Usable q o → ends o ≡ Some (lo, hi) → span lo hi ≤ 64
+usable_narrow q None lo hi u e = let z : ◌≡◌ {A = ℕ} 0 1 = cc in absurd (omega arith)
+usable_narrow q (Some l) lo hi u e = omega (arith, u.1.narrow, span_is l lo hi e)
 
 -- the windows of an unrolled ring
 
@@ -56,24 +64,46 @@ part_of_unrolled c cells lo i w m some fits u =
     let e : pos i +ℤ lo +ℤ pos j ≡ floor_div lo n *ℤ pos n +ℤ (start +ℤ pos i +ℤ pos j) = omega (arith, ints, floor_div_mod lo n some) in
     sym (ap (at c) e ∙ periodic_times n (at c) (periodic_at c some) (floor_div lo n) (start +ℤ pos i +ℤ pos j)))
 
-module _ (q start w : ℕ) (c cells : List ℕ) (r : Ring q c) (u : cells ≡ window (at c) (pos start) (length c + w)) where
+some_is : {m n : ℕ} → Some m ≡ Some n → m ≡ n
+some_is e = cc
+
+pub cell_inside : (z : ℤ) (n i : ℕ) → 1 ≤ n → Some i ≡ cell_at z n → i < n
+cell_inside z n i some e = omega (arith, some_is (e ∙ cell_at-some z n some), floor_mod_lt z n some)
+
+-- a ring unrolled from the beginning of an interval on, so far that each cell has its window
+record Unrolled (c cells : List ℕ) (lo hi : ℤ) (w : ℕ) : Type 0 where
+  wide : w ≡ span lo hi
+  all : cells ≡ window (at c) (pos (floor_mod lo (length c))) (length c + w)
+
+-- what the parts of w cells of such a ring are: windows of the local function, and its values at them make the image
+pub record Windows (q : ℕ) (o : Option Local) (c cells : List ℕ) (w : ℕ) : Type 0 where
+  pub reads : (i : ℕ) → i < length c → Reads q o (part cells i w)
+  pub image : tabulate (λ i. value_of o (part cells i w)) (length c) ≡ image o c
+
+module _ (q w : ℕ) (lo hi : ℤ) (c cells : List ℕ) (r : Ring q c) (u : Unrolled c cells lo hi w) where
   -- the part at i is the window at i
-  unrolled_part : (l : Local) → start ≡ floor_mod l.lo (length c) → w ≡ width l → (i : ℕ) → i < length c → part cells i w ≡ window (at c) (pos i +ℤ l.lo) (width l)
-  unrolled_part l s e i h =
-      part_of_unrolled c cells l.lo i w (length c + w) r.some (omega arith) (u ∙ ap (λ p. window (at c) (pos p) (length c + w)) s) ∙ ap (window (at c) (pos i +ℤ l.lo)) e
+  unrolled_part : (l : Local) → ends (Some l) ≡ Some (lo, hi) → (i : ℕ) → i < length c → part cells i w ≡ window (at c) (pos i +ℤ l.lo) (width l)
+  unrolled_part l e i h =
+      part_of_unrolled c cells lo i w (length c + w) r.some (omega arith) u.all ∙
+      ap₂ (λ (z : ℤ) (n : ℕ). window (at c) (pos i +ℤ z) n) (sym (ap first e)) (u.wide ∙ sym (span_is l lo hi e))
 
-  pub unrolled_reads : (o : Option Local) → Placed (length c) o start w → (i : ℕ) → i < length c → Reads q o (part cells i w)
-  unrolled_reads None p i h = absurd p
-  unrolled_reads (Some l) p i h =
-      subst (Reads q (Some l)) (sym (unrolled_part l p.0 p.1 i h))
-      (length-window (at c) (pos i +ℤ l.lo) (width l), codes-window q (at c) (pos i +ℤ l.lo) (width l) (below_at q c r))
-
-  pub unrolled_image : (o : Option Local) → Placed (length c) o start w → tabulate (λ i. value_of o (part cells i w)) (length c) ≡ image o c
+  unrolled_windows : (o : Option Local) → ends o ≡ Some (lo, hi) → Windows q o c cells w
   unfolding ring_map
-  unrolled_image None p = absurd p
-  unrolled_image (Some l) p =
-      tabulate-same (λ i. l.value (part cells i w)) (λ i. l.value (window (at c) (pos 0 +ℤ pos i +ℤ l.lo) (width l))) (length c)
-      (λ i h. ap l.value (unrolled_part l p.0 p.1 i h ∙ ap (λ k. window (at c) (pos k +ℤ l.lo) (width l)) (sym (zero-add i))))
+  unrolled_windows None e = let z : ◌≡◌ {A = ℕ} 0 1 = cc in absurd (omega arith)
+  unrolled_windows (Some l) e = record {
+    reads = λ i h.
+        subst (Reads q (Some l)) (sym (unrolled_part l e i h))
+        (length-window (at c) (pos i +ℤ l.lo) (width l), codes-window q (at c) (pos i +ℤ l.lo) (width l) (below_at q c r));
+    image =
+        tabulate-same (λ i. l.value (part cells i w)) (λ i. l.value (window (at c) (pos 0 +ℤ pos i +ℤ l.lo) (width l))) (length c)
+        (λ i h. ap l.value (unrolled_part l e i h ∙ ap (λ k. window (at c) (pos k +ℤ l.lo) (width l)) (sym (zero-add i))));
+  }
+
+pub windows : (q : ℕ) (o : Option Local) (c cells : List ℕ) (lo hi : ℤ) (start w : ℕ) → Ring q c → ends o ≡ Some (lo, hi) → Some start ≡ cell_at lo (length c) → w ≡ span lo hi
+    → cells ≡ window (at c) (pos start) (length c + w) → Windows q o c cells w
+windows q o c cells lo hi start w r e s wide u =
+    let at_start : start ≡ floor_mod lo (length c) = some_is (s ∙ cell_at-some lo (length c) r.some) in
+    unrolled_windows q w lo hi c cells r (record { wide = wide; all = u ∙ ap (λ p. window (at c) (pos p) (length c + w)) at_start }) o e
 
 pub length-image : (o : Option Local) (c : List ℕ) → length (image o c) ≡ length c
 length-image None c = refl
@@ -83,6 +113,16 @@ length-image (Some l) c = length-ring_map l c
 pub answer-reads : (q : ℕ) (o : Option Local) (ws : List ℕ) → Reads q o ws → answer q o ws ≡ Ok (value_of o ws)
 answer-reads q None ws r = absurd r
 answer-reads q (Some l) ws r = checked_readable q (width l) ws (record { len = r.0; codes = r.1 }) (l.value ws)
+
+pub ok_is : {r : Result ℕ RuleFault} {m n : ℕ} → Ok m ≡ r → r ≡ Ok n → m ≡ n
+ok_is e h = cc
+
+-- what a rule answers at a part of an unrolled ring
+pub answer-part : (q : ℕ) (o : Option Local) (cells : List ℕ) (i w : ℕ) (r : Result ℕ RuleFault) → Reads q o (part cells i w) → r ≡ answer q o (part cells i (i + w - i))
+    → r ≡ Ok (value_of o (part cells i w))
+answer-part q o cells i w r reads e =
+    let n : i + w - i ≡ w = omega arith in
+    e ∙ ap (λ m. answer q o (part cells i m)) n ∙ answer-reads q o (part cells i w) reads
 
 -- one more cell of a list that is written from the front
 pub one_more : (f : ℕ → ℕ) (xs : List ℕ) (i v : ℕ) → i < length xs → ((k : ℕ) → k < i → get_or xs k 0 ≡ f k) → v ≡ f i → (k : ℕ) → k < i + 1 → get_or (set xs i v) k 0 ≡ f k
@@ -99,7 +139,7 @@ pub record Mappable (q : ℕ) (ring : List ℕ) (room : ℕ) : Type 0 where
 pub mappable : (q : ℕ) (ring : List ℕ) (room : ℕ) → None ≡ ring_fault q ring room → Mappable q ring room
 mappable q ring room = by (eqb (length ring) 0) (ltb 2048 (length ring)) (ltb room (length ring)) (first_stray q ring) refl refl refl (is_first_stray q ring) where
   by : (a b c : Bool) (o : Option ℕ) → eqb (length ring) 0 ≡ a → ltb 2048 (length ring) ≡ b → ltb room (length ring) ≡ c → IsFirstStray q ring o
-      → None ≡ cond a (Some EmptyRing) (cond b (Some LongRing) (cond c (Some ShortBuffer) (stray_fault o))) → Mappable q ring room
+      → None ≡ cond a (Some EmptyRing) (cond b (Some LongRing) (cond c (Some ShortBuffer) (option_map StrayCode o))) → Mappable q ring room
   by true b c o ea eb ec s h = let z : ◌≡◌ {A = ℕ} 0 1 = cc in absurd (omega arith)
   by false true c o ea eb ec s h = let z : ◌≡◌ {A = ℕ} 0 1 = cc in absurd (omega arith)
   by false false true o ea eb ec s h = let z : ◌≡◌ {A = ℕ} 0 1 = cc in absurd (omega arith)
@@ -115,18 +155,6 @@ unplaced q (Some l) ring room e = let z : ◌≡◌ {A = ℕ} 0 1 = cc in absurd
 pub map_fault-some : (q : ℕ) (o : Option Local) (ring : List ℕ) (room : ℕ) (lo hi : ℤ) → Some (lo, hi) ≡ ends o → map_fault q o ring room ≡ ring_fault q ring room
 map_fault-some q None ring room lo hi e = let z : ◌≡◌ {A = ℕ} 0 1 = cc in absurd (omega arith)
 map_fault-some q (Some l) ring room lo hi e = refl
-
-abbrev first : Option (ℤ × ℤ) → ℤ
-first None = pos 0
-first (Some p) = p.0
-
-abbrev second : Option (ℤ × ℤ) → ℤ
-second None = pos 0
-second (Some p) = p.1
-
-pub placed : (o : Option Local) (n : ℕ) (lo hi : ℤ) (start w : ℕ) → Some (lo, hi) ≡ ends o → start ≡ floor_mod lo n → w ≡ span lo hi → Placed n o start w
-placed None n lo hi start w e s k = let z : ◌≡◌ {A = ℕ} 0 1 = cc in absurd (omega arith)
-placed (Some l) n lo hi start w e s k = (s ∙ ap (λ z. floor_mod z n) (ap first e), k ∙ ap₂ span (ap first e) (ap second e))
 
 -- the laws of one step
 

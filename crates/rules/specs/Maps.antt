@@ -1,24 +1,22 @@
 -- What the call that maps a whole ring answers and writes, and the laws of one step.
 use Rattle.std.specs.Prelude.{◌≡◌, ℕ, cond, List, ◌++◌, length, drop, ℤ, pos, negsuc, IfSome, Some, None, Option, Result, ◌==◌, nat_lt}
+use Rattle.std.specs.Option.{option_map}
 use Rattle.rings.specs.declared.Direction.{Direction}
 use Rattle.rings.specs.declared.Direction.TheVariants.{Forward, Backward}
 use Rattle.rings.specs.Ring.{first_stray}
+use Rattle.rings.specs.Limits.{max_cells}
 use Rattle.rings.specs.Local.{Local, ring_map, CommutesWithRotation}
 use Rattle.rings.specs.Automaton.{Automaton, toward, after}
 use Rattle.rings.specs.Refusals.{outcome, unless_refused}
 use Rattle.rules.specs.declared.fault.RuleFault.{RuleFault}
 use Rattle.rules.specs.declared.fault.RuleFault.TheVariants.{EmptyRing, LongRing, StrayCode, ShortBuffer, NoInverse}
 
-abbrev pub stray_fault : Option ℕ → Option RuleFault
-stray_fault None = None
-stray_fault (Some i) = Some (StrayCode i)
-
 -- Why a ring is not mapped into a buffer of so many cells, if it is not: no cell, too many cells, a short buffer, a stray code.
 abbrev pub ring_fault : ℕ → List ℕ → ℕ → Option RuleFault
 ring_fault q ring room =
     cond (length ring == 0) (Some EmptyRing)
-    (cond (nat_lt 2048 (length ring)) (Some LongRing)
-    (cond (nat_lt room (length ring)) (Some ShortBuffer) (stray_fault (first_stray q ring))))
+    (cond (nat_lt max_cells (length ring)) (Some LongRing)
+    (cond (nat_lt room (length ring)) (Some ShortBuffer) (option_map StrayCode (first_stray q ring))))
 
 -- The same for a local function, if there is one; that there is none comes first.
 abbrev pub map_fault : ℕ → Option Local → List ℕ → ℕ → Option RuleFault

@@ -1,6 +1,5 @@
--- Words for the inner functions of the call that maps a ring.
+-- Words for the inner functions of the calls that apply a rule.
 use Rattle.std.specs.Prelude.{◌≡◌, ℕ, List, length, take, drop, Some, None, Option, MatchOption}
-use Rattle.rings.specs.Integers.{floor_mod}
 use Rattle.rings.specs.Ring.{Codes}
 use Rattle.rings.specs.Local.{Local, width}
 
@@ -12,10 +11,6 @@ value_of (Some l) ws = l.value ws
 -- There is a local function, and the window is one of its windows.
 abbrev pub Reads : ℕ → Option Local → List ℕ → Type 0
 Reads q o ws = MatchOption o ⊥ (λ l. (length ws ≡ width l) × Codes q ws)
-
--- There is a local function, its windows have w cells, and the first window of a ring of n cells begins at the place start.
-abbrev pub Placed : ℕ → Option Local → ℕ → ℕ → Type 0
-Placed n o start w = MatchOption o ⊥ (λ l. (start ≡ floor_mod l.lo n) × (w ≡ width l))
 
 -- The w cells of a list from the place i on.
 abbrev pub part : List ℕ → ℕ → ℕ → List ℕ

@@ -1,8 +1,11 @@
 -- Automata given by a table of entries.
-use Rattle.std.specs.Prelude.{ℕ, ◌+◌, ◌*◌, ◌^◌, Bool, cond, ◌&&◌, List, [], ◌∷◌, length, take, ℤ, pos, negsuc, Some, None, Option, ◌==◌, int_le, nat_le, slice_index}
+use Rattle.std.specs.Prelude.{ℕ, ◌+◌, ◌*◌, ◌^◌, Bool, cond, ◌&&◌, List, [], ◌∷◌, length, take, ℤ, Some, None, Option, ◌==◌, int_le, nat_le, slice_index}
+use Rattle.std.specs.Option.{option_map}
+use Rattle.rings.specs.Limits.{ends_fit}
 use Rattle.rings.specs.Ring.{first_stray}
 use Rattle.rings.specs.Local.{span}
 use Rattle.rings.specs.Automaton.{Automaton}
+use Rattle.rules.specs.declared.Shape.{Shape}
 use Rattle.rules.specs.declared.fault.RuleFault.{RuleFault}
 use Rattle.rules.specs.declared.fault.RuleFault.TheVariants.{WrongLength, OutOfRange, BadEntry}
 
@@ -19,29 +22,33 @@ table q lo hi entries = record {
   inverse = None;
 }
 
--- The interval of a rule: from -128 to 128, and at most 64 cells.
+-- The most states of a table.
+abbrev pub max_table_states : ℕ
+max_table_states = 1024
+
+-- The most entries of a table.
+abbrev pub max_entries : ℕ
+max_entries = 1024
+
+-- The interval of a rule: its ends are in order and within their limits.
 abbrev pub interval_fits : ℤ → ℤ → Bool
-interval_fits lo hi = int_le (negsuc 127) lo && (int_le lo hi && (int_le hi (pos 128) && nat_le (span lo hi) 64))
+interval_fits lo hi = int_le lo hi && ends_fit lo hi
 
--- The sizes of a table: 1 to 1,024 states, the interval of a rule, and at most 1,024 entries.
+-- The sizes of a table: its states, the interval of a rule, and its entries.
 abbrev pub table_fits : ℕ → ℤ → ℤ → Bool
-table_fits q lo hi = nat_le 1 q && (nat_le q 1024 && (interval_fits lo hi && nat_le (q ^ span lo hi) 1024))
-
-abbrev pub bad_entry : Option ℕ → Option RuleFault
-bad_entry None = None
-bad_entry (Some i) = Some (BadEntry i)
+table_fits q lo hi = nat_le 1 q && (nat_le q max_table_states && (interval_fits lo hi && nat_le (q ^ span lo hi) max_entries))
 
 -- Why these parts make no table, if they make none: a size, then the number of entries, then the first entry that is no state.
 abbrev pub table_fault : ℕ → ℤ → ℤ → List ℕ → Option RuleFault
 table_fault q lo hi entries =
     cond (table_fits q lo hi)
-    (cond (length entries == q ^ span lo hi) (bad_entry (first_stray q entries)) (Some WrongLength))
+    (cond (length entries == q ^ span lo hi) (option_map BadEntry (first_stray q entries)) (Some WrongLength))
     (Some OutOfRange)
 
 -- The entries, which stand at the front of a table's store.
-abbrev pub stored : ℕ → ℤ → ℤ → List ℕ → List ℕ
-stored q lo hi store = take (q ^ span lo hi) store
+abbrev pub stored : Shape → List ℕ → List ℕ
+stored s store = take (s.states ^ span s.lo s.hi) store
 
--- The automaton of a table's store.
-abbrev pub stored_table : ℕ → ℤ → ℤ → List ℕ → Automaton
-stored_table q lo hi store = table q lo hi (stored q lo hi store)
+-- The automaton of a table of this shape with this store.
+abbrev pub stored_table : Shape → List ℕ → Automaton
+stored_table s store = table s.states s.lo s.hi (stored s store)

@@ -10,6 +10,7 @@ use Rattle.rings.specs.Local.{span}
 use Rattle.rings.specs.Automaton.{Lawful}
 use Rattle.rings.proofs.Ring.{is_first_stray}
 use Rattle.rules.specs.Tables.{entry_index, table_fits, table_fault, stored, stored_table}
+use Rattle.rules.specs.declared.Shape.{Shape}
 use Rattle.rules.specs.declared.fault.RuleFault.TheVariants.{BadEntry}
 use Rattle.rules.specs.Windows.{Readable}
 
@@ -76,8 +77,8 @@ sized q lo hi h =
     record {
       some = leb-true _ _ a.0;
       few = leb-true _ _ b.0;
-      low = le_z_true _ _ d.0;
-      ordered = le_z_true _ _ e.0;
+      low = le_z_true _ _ e.0;
+      ordered = le_z_true _ _ d.0;
       high = le_z_true _ _ f.0;
       narrow = leb-true _ _ f.1;
       entries = leb-true _ _ c.1;
@@ -93,39 +94,39 @@ codes_none q c = from (first_stray q c) (is_first_stray q c) where
   from None codes h = codes
   from (Some i) s h = absurd (true≢false h)
 
-pub table_lawful : (q : ℕ) (lo hi : ℤ) (store : List ℕ) → table_fits q lo hi ≡ true → is_some (first_stray q (stored q lo hi store)) ≡ false → Lawful (stored_table q lo hi store)
-table_lawful q lo hi store fits closed =
-    let s = sized q lo hi fits in
+pub table_lawful : (s : Shape) (store : List ℕ) → table_fits s.states s.lo s.hi ≡ true → is_some (first_stray s.states (stored s store)) ≡ false → Lawful (stored_table s store)
+table_lawful s store fits closed =
+    let z = sized s.states s.lo s.hi fits in
     record {
-      bounded = record { few = omega (arith, s.few); forward = record { low = s.low; high = s.high; narrow = s.narrow }; inverse = tt };
+      bounded = record { few = omega (arith, z.few); forward = record { low = z.low; high = z.high; narrow = z.narrow }; inverse = tt };
       sound = record {
-        some = s.some;
-        forward = record { ordered = s.ordered; closed = λ ws e codes. entry_lt q (stored q lo hi store) (entry_index q ws) s.some (codes_none q (stored q lo hi store) closed) };
+        some = z.some;
+        forward = record { ordered = z.ordered; closed = λ ws e codes. entry_lt s.states (stored s store) (entry_index s.states ws) z.some (codes_none s.states (stored s store) closed) };
         inverse = tt;
       };
     }
 
 -- what a table reads at a window of its own
-module _ (q : ℕ) (lo hi : ℤ) (store ws : List ℕ) (fits : table_fits q lo hi ≡ true) (r : Readable q (span lo hi) ws) where
-  pub may_index : Codes q ws × ((1 ≤ q) × (q ^ length ws ≤ 1024))
+module _ (s : Shape) (store ws : List ℕ) (fits : table_fits s.states s.lo s.hi ≡ true) (r : Readable s.states (span s.lo s.hi) ws) where
+  pub may_index : Codes s.states ws × ((1 ≤ s.states) × (s.states ^ length ws ≤ 1024))
   may_index =
-      let s = sized q lo hi fits in
-      (r.codes, (s.some, omega (arith, s.entries, ap (λ n. q ^ n) r.len)))
+      let z = sized s.states s.lo s.hi fits in
+      (r.codes, (z.some, omega (arith, z.entries, ap (λ n. s.states ^ n) r.len)))
 
-  index_inside : (i : ℕ) → i ≡ entry_index q ws → i < q ^ span lo hi
-  index_inside i k = omega (arith, entry_index_lt q ws r.codes, ap (λ n. q ^ n) r.len)
+  index_inside : (i : ℕ) → i ≡ entry_index s.states ws → i < s.states ^ span s.lo s.hi
+  index_inside i k = omega (arith, entry_index_lt s.states ws r.codes, ap (λ n. s.states ^ n) r.len)
 
-  pub index_small : (i : ℕ) → i ≡ entry_index q ws → i < 1024
-  index_small i k = omega (arith, index_inside i k, (sized q lo hi fits).entries)
+  pub index_small : (i : ℕ) → i ≡ entry_index s.states ws → i < 1024
+  index_small i k = omega (arith, index_inside i k, (sized s.states s.lo s.hi fits).entries)
 
-  pub entry_stored : (i : ℕ) → i ≡ entry_index q ws → slice_index store i ≡ slice_index (stored q lo hi store) (entry_index q ws)
-  entry_stored i k = sym (ap (λ n. slice_index (stored q lo hi store) n) (sym k) ∙ get_or-take (q ^ span lo hi) store i 0 (index_inside i k))
+  pub entry_stored : (i : ℕ) → i ≡ entry_index s.states ws → slice_index store i ≡ slice_index (stored s store) (entry_index s.states ws)
+  entry_stored i k = sym (ap (λ n. slice_index (stored s store) n) (sym k) ∙ get_or-take (s.states ^ span s.lo s.hi) store i 0 (index_inside i k))
 
 -- a table that was made from its entries
 
 pub record Made (q : ℕ) (lo hi : ℤ) (entries store : List ℕ) : Type 0 where
   pub fits : table_fits q lo hi ≡ true
-  pub holds : stored q lo hi store ≡ entries
+  pub holds : take (q ^ span lo hi) store ≡ entries
   pub fault : table_fault q lo hi entries ≡ None
 
 pub counted : (q : ℕ) (lo hi : ℤ) (count : ℕ) → Some count ≡ cond (table_fits q lo hi) (Some (q ^ span lo hi)) None → (table_fits q lo hi ≡ true) × (count ≡ q ^ span lo hi)

@@ -45,7 +45,7 @@ impl RuleFault {
         }
     }
 
-    // The index that the refusal points at, or 0.
+    // The index that the refusal points at. Users ask that a place that is not named is 0.
     pub fn place(self) -> usize
         ensures answer { result ≡ fault_place self }
     {

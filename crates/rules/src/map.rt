@@ -1,12 +1,12 @@
 // One step of a whole ring, by any rule.
-ghost use Rattle.std.specs.Prelude.{◌≡◌, ℕ, ◌+◌, ◌<◌, ◌≤◌, length, take, pos};
-ghost use Rattle.rings.specs.Integers.{floor_mod};
-ghost use Rattle.rings.specs.Line.{tabulate, window};
-ghost use Rattle.rings.specs.Ring.{at, Codes};
+ghost use Rattle.std.specs.Prelude.{◌≡◌, ◌<◌, ◌≤◌, length, pos, Some};
+ghost use Rattle.rings.specs.Line.{window};
+ghost use Rattle.rings.specs.Limits.{max_cells};
+ghost use Rattle.rings.specs.Ring.{at, Ring};
 ghost use Rattle.rings.specs.Automaton.{toward, StepsAdd};
 ghost use Rattle.rings.specs.Refusals.{outcome};
+ghost use Rattle.rules.specs.Answers.{ends};
 ghost use Rattle.rules.specs.Maps.{ring_fault, image, written_over, map_answer, map_buffer, StepLaws};
-ghost use Rattle.rules.specs.Steps.{value_of, Reads, Placed, part};
 
 use crate::{Rule, RuleFault, check_codes};
 use rings::{Direction, MAX_CELLS, MAX_WIDTH, cell_at, interval_width};
@@ -26,16 +26,9 @@ pub fn map_ring<R: Rule>(
     ensures law { StepLaws direction (R.Rule.meaning rule.now) }
     ensures steps { StepsAdd (R.Rule.meaning rule.now) }
 {
-    let (lo, hi) = rule.interval(direction).ok_or(RuleFault::NoInverse)?;
+    let interval = rule.interval(direction).ok_or(RuleFault::NoInverse)?;
     check_ring(ring, rule.shape().states, buffer.len())?;
-    write_image(
-        rule,
-        direction,
-        cell_at(i64::from(lo), ring.len()),
-        interval_width(lo, hi),
-        ring,
-        buffer,
-    );
+    write_image(rule, direction, interval, ring, buffer);
     Ok(())
 }
 
@@ -68,48 +61,26 @@ fn unroll(ring: &[u32], start: usize, cells: &mut [u32])
     }
 }
 
-// The code that a rule gives at a window of its own.
-fn apply<R: Rule>(rule: &R, direction: Direction, window: &[u32]) -> u32
-    requires { Reads (R.Rule.meaning rule.now).states (toward direction (R.Rule.meaning rule.now)) window.now }
-    ensures { result ≡ value_of (toward direction (R.Rule.meaning rule.now)) window.now }
-{
-    rule.step(direction, window).unwrap_or(0)
-}
-
-// Writes what a rule gives at each window of an unrolled ring, one for each cell of the buffer.
-fn apply_all<R: Rule>(
-    rule: &R,
-    direction: Direction,
-    unrolled: &[u32],
-    width: usize,
-    buffer: &mut [u32],
-)
-    requires sizes { length buffer.old + width ≤ length unrolled.now }
-    requires reads { (i : ℕ) → i < length buffer.old → Reads (R.Rule.meaning rule.now).states (toward direction (R.Rule.meaning rule.now)) (part unrolled.now i width) }
-    ensures { buffer.new ≡ tabulate (λ i. value_of (toward direction (R.Rule.meaning rule.now)) (part unrolled.now i width)) (length buffer.old) }
-{
-    for (i, cell) in buffer.iter_mut().enumerate() {
-        *cell = apply(rule, direction, &unrolled[i..i + width]);
-    }
-}
-
-// Writes the image of a ring that is known to be good, its windows beginning at the place `start`.
+// Writes the image of a ring that is known to be good, by a rule whose interval has these ends.
 fn write_image<R: Rule>(
     rule: &R,
     direction: Direction,
-    start: usize,
-    width: usize,
+    interval: (i32, i32),
     ring: &[u32],
     buffer: &mut [u32],
 )
-    requires interval { Placed (length ring.now) (toward direction (R.Rule.meaning rule.now)) start width }
-    requires sizes { (0 < length ring.now) × ((length ring.now ≤ 2048) × (length ring.now ≤ length buffer.old)) }
-    requires codes { Codes (R.Rule.meaning rule.now).states ring.now }
+    requires ends { ends (toward direction (R.Rule.meaning rule.now)) ≡ Some interval }
+    requires ring { Ring (R.Rule.meaning rule.now).states ring.now }
+    requires sizes { (length ring.now ≤ max_cells) × (length ring.now ≤ length buffer.old) }
     ensures { buffer.new ≡ written_over (image (toward direction (R.Rule.meaning rule.now)) ring.now) buffer.old }
 {
-    let n = ring.len();
+    let (lo, hi) = interval;
+    let start = cell_at(i64::from(lo), ring.len()).unwrap();
+    let width = interval_width(lo, hi);
     let mut store = [0; MAX_UNROLLED];
-    let unrolled = &mut store[0..n + width];
+    let unrolled = &mut store[..ring.len() + width];
     unroll(ring, start, unrolled);
-    apply_all(rule, direction, unrolled, width, &mut buffer[0..n]);
+    for (i, cell) in buffer[..ring.len()].iter_mut().enumerate() {
+        *cell = rule.step(direction, &unrolled[i..i + width]).unwrap();
+    }
 }

@@ -3,7 +3,7 @@ ghost use Rattle.std.specs.Prelude.{◌≡◌, ◌*◌, ◌^◌, ◌<◌, ◌≤
 ghost use Rattle.rings.specs.Line.{tabulate};
 ghost use Rattle.rings.specs.Local.{span};
 ghost use Rattle.rings.specs.Ring.{Codes, first_stray};
-ghost use Rattle.rules.specs.Tables.{entry_index, table, interval_fits, table_fits, table_fault, stored, stored_table};
+ghost use Rattle.rules.specs.Tables.{entry_index, table, max_entries, interval_fits, table_fits, table_fault, stored, stored_table};
 ghost use Rattle.rules.specs.Elementary.{bit, elementary, WolframNumbered};
 ghost use Rattle.rules.specs.Kinds.{table_kind};
 ghost use Rattle.rules.specs.Windows.{Readable};
@@ -11,7 +11,7 @@ ghost use Rattle.rules.specs.TablesLemmas.{table_lawful};
 
 use crate::window::check_window;
 use crate::{Rule, RuleFault, Shape};
-use rings::{MAX_END, MAX_WIDTH, MIN_END, first_stray, interval_width, power_within};
+use rings::{ends_fit, first_stray, interval_width, power_within};
 
 const MAX_TABLE_STATES: u32 = 1024;
 
@@ -25,13 +25,13 @@ pub struct Table {
     shape: Shape,
     store: [u32; MAX_ENTRIES],
     ghost fits: { table_fits shape.states shape.lo shape.hi ≡ true },
-    ghost closed: { is_some (first_stray shape.states (stored shape.states shape.lo shape.hi store)) ≡ false },
+    ghost closed: { is_some (first_stray shape.states (stored shape store)) ≡ false },
 }
 
 impl Table {
     // The table with these entries, one for every window.
     pub fn new(states: u32, lo: i32, hi: i32, entries: &[u32]) -> Result<Table, RuleFault>
-        ensures answer { MatchResult result (λ t. (table_fault states lo hi entries.now ≡ None) × (stored_table t.shape.states t.shape.lo t.shape.hi t.store ≡ table states lo hi entries.now)) (λ e. table_fault states lo hi entries.now ≡ Some e) }
+        ensures answer { MatchResult result (λ t. (table_fault states lo hi entries.now ≡ None) × (stored_table t.shape t.store ≡ table states lo hi entries.now)) (λ e. table_fault states lo hi entries.now ≡ Some e) }
     {
         let shape = Shape { states, lo, hi };
         let count = entry_count(shape).ok_or(RuleFault::OutOfRange)?;
@@ -49,8 +49,8 @@ impl Table {
 
     // The elementary automaton of this number, after Wolfram.
     pub fn elementary(number: u8) -> Table
-        ensures answer { stored_table result.shape.states result.shape.lo result.shape.hi result.store ≡ elementary number }
-        ensures law { WolframNumbered number (stored_table result.shape.states result.shape.lo result.shape.hi result.store) }
+        ensures answer { stored_table result.shape result.store ≡ elementary number }
+        ensures law { WolframNumbered number (stored_table result.shape result.store) }
     {
         Table {
             shape: Shape {
@@ -65,7 +65,7 @@ impl Table {
     // The entry for a window of this table.
     fn entry(&self, window: &[u32]) -> u32
         requires { Readable self.now.shape.states (span self.now.shape.lo self.now.shape.hi) window.now }
-        ensures { result ≡ slice_index (stored self.now.shape.states self.now.shape.lo self.now.shape.hi self.now.store) (entry_index self.now.shape.states window.now) }
+        ensures { result ≡ slice_index (stored self.now.shape self.now.store) (entry_index self.now.shape.states window.now) }
     {
         self.store[index_of(window, self.shape.states)]
     }
@@ -76,9 +76,9 @@ impl Rule for Table {
 
     ghost KIND = { table_kind };
 
-    ghost meaning = { λ t. stored_table t.shape.states t.shape.lo t.shape.hi t.store };
+    ghost meaning = { λ t. stored_table t.shape t.store };
 
-    ghost lawful = { λ x. table_lawful x.shape.states x.shape.lo x.shape.hi x.store x.fits x.closed };
+    ghost lawful = { λ x. table_lawful x.shape x.store x.fits x.closed };
 
     fn shape(&self) -> Shape {
         self.shape
@@ -114,17 +114,17 @@ fn entry_count(shape: Shape) -> Option<u32>
 fn interval_fits(lo: i32, hi: i32) -> bool
     ensures { result ≡ interval_fits lo hi }
 {
-    lo >= MIN_END && lo <= hi && hi <= MAX_END && interval_width(lo, hi) <= MAX_WIDTH
+    lo <= hi && ends_fit(lo, hi)
 }
 
 // The entries at the front of a store.
 fn padded(entries: &[u32]) -> [u32; MAX_ENTRIES]
-    requires { length entries.now ≤ 1024 }
+    requires { length entries.now ≤ max_entries }
     ensures { take (length entries.now) result ≡ entries.now }
 {
     let count = entries.len();
     let mut store = [0; MAX_ENTRIES];
-    store[0..count].copy_from_slice(entries);
+    store[..count].copy_from_slice(entries);
     store
 }
 
@@ -137,7 +137,7 @@ fn bits(number: u8) -> [u32; ELEMENTARY_ENTRIES]
 
 // The index of the entry for a window.
 fn index_of(window: &[u32], states: u32) -> usize
-    requires { (Codes states window.now) × ((1 ≤ states) × (states ^ length window.now ≤ 1024)) }
+    requires { (Codes states window.now) × ((1 ≤ states) × (states ^ length window.now ≤ max_entries)) }
     ensures { result ≡ entry_index states window.now }
 {
     let mut index = 0;

@@ -6,7 +6,8 @@ ghost use Rattle.rules.specs.Answers.{checked, unless_stray};
 use crate::RuleFault;
 use rings::first_stray;
 
-// Refuses cells with a stray code.
+// Refuses cells with a stray code. (Stray entries have another fault, which a shared call would take as a closure: it would have to
+// ask that the closure may be called, and public calls ask nothing.)
 pub fn check_codes(cells: &[u32], states: u32) -> Result<(), RuleFault>
     ensures answer { result ≡ unless_stray (first_stray states cells.now) tt }
 {

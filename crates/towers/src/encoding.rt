@@ -24,7 +24,7 @@ pub fn encode<T: Tower>(tower: &T, ring: &[u32], buffer: &mut [u32]) -> Result<(
         tower,
         numbers.bottom,
         ring,
-        &mut buffer[0..ring.len() / block],
+        &mut buffer[..ring.len() / block],
     );
     Ok(())
 }
@@ -43,7 +43,7 @@ pub fn decode<T: Tower>(tower: &T, ring: &[u32], buffer: &mut [u32]) -> Result<(
         tower,
         numbers.bottom,
         ring,
-        &mut buffer[0..ring.len() * block],
+        &mut buffer[..ring.len() * block],
     );
     Ok(())
 }
@@ -64,7 +64,7 @@ pub fn decode_rotated<T: Tower>(
         return Err(TowerFault::Rule(RuleFault::EmptyRing));
     }
     check_cells(ring, numbers.states, ring.len(), buffer.len() / block)?;
-    let cells = &mut buffer[0..ring.len() * block];
+    let cells = &mut buffer[..ring.len() * block];
     write_decoded(tower, numbers.bottom, ring, cells);
     rotate_cells(rotation, cells);
     Ok(())
@@ -75,7 +75,7 @@ fn rotate_cells(rotation: i64, ring: &mut [u32])
     requires { 1 ≤ length ring.old }
     ensures { ring.new ≡ rotate rotation ring.old }
 {
-    ring.rotate_left(cell_at(rotation, ring.len()));
+    ring.rotate_left(cell_at(rotation, ring.len()).unwrap());
 }
 
 // Refuses a bottom ring that is not encoded into a buffer of `room` cells.
@@ -128,9 +128,8 @@ fn write_encoded<T: Tower>(tower: &T, states: u32, ring: &[u32], cells: &mut [u3
 {
     cells.fill(0);
     for (j, code) in ring.iter().enumerate() {
-        if let Ok(place) = tower.place(ring.len(), j) {
-            cells[place.cell] += *code * states.pow(place.digit as u32);
-        }
+        let place = tower.place(ring.len(), j).unwrap();
+        cells[place.cell] += *code * states.pow(place.digit as u32);
     }
 }
 
@@ -143,8 +142,7 @@ fn write_decoded<T: Tower>(tower: &T, states: u32, ring: &[u32], cells: &mut [u3
 {
     let n = cells.len();
     for (j, cell) in cells.iter_mut().enumerate() {
-        if let Ok(place) = tower.place(n, j) {
-            *cell = ring[place.cell] / states.pow(place.digit as u32) % states;
-        }
+        let place = tower.place(n, j).unwrap();
+        *cell = ring[place.cell] / states.pow(place.digit as u32) % states;
     }
 }

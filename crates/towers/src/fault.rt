@@ -29,7 +29,7 @@ impl TowerFault {
         }
     }
 
-    // The index or the floor that the refusal points at, or 0.
+    // The index or the floor that the refusal points at. Users ask that a place that is not named is 0.
     pub fn place(self) -> usize
         ensures answer { result ≡ tower_fault_place self }
     {

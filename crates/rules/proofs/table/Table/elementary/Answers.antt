@@ -13,5 +13,5 @@ invariant_of-result c =
 pub returns : goal.returns
 returns c =
     let front = bits_stored c.args.number c.bits.result c.padded.result c.bits.ensures c.padded.ensures in
-    let e : stored_table 2 (negsuc 0) (pos 1) c.padded.result ≡ elementary c.args.number = ap (table 2 (negsuc 0) (pos 1)) front in
+    let e : stored_table (record { states = 2; lo = negsuc 0; hi = pos 1 }) c.padded.result ≡ elementary c.args.number = ap (table 2 (negsuc 0) (pos 1)) front in
     record { answer = e; law = subst (WolframNumbered c.args.number) (sym e) (elementary_wolfram c.args.number) }

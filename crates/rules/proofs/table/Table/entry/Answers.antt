@@ -3,19 +3,19 @@ use Rattle.rules.specs.TablesLemmas.{may_index, index_small, entry_stored}
 use Rattle.rules.proofs.table.Table.entry.Goals as goal
 
 pub index_of-requires : goal.index_of-requires
-index_of-requires c = let t = c.args.self.now in may_index t.shape.states t.shape.lo t.shape.hi t.store c.args.window.now t.fits c.requires
+index_of-requires c = let t = c.args.self.now in may_index t.shape t.store c.args.window.now t.fits c.requires
 
 pub offset_bounds-self-index_of : goal.offset_bounds-self-index_of
 offset_bounds-self-index_of c =
     let t = c.args.self.now in
-    omega (arith, index_small t.shape.states t.shape.lo t.shape.hi t.store c.args.window.now t.fits c.requires c.index_of.result c.index_of.ensures)
+    omega (arith, index_small t.shape t.store c.args.window.now t.fits c.requires c.index_of.result c.index_of.ensures)
 
 pub bounds-self-index_of : goal.bounds-self-index_of
 bounds-self-index_of c =
     let t = c.args.self.now in
-    index_small t.shape.states t.shape.lo t.shape.hi t.store c.args.window.now t.fits c.requires c.index_of.result c.index_of.ensures
+    index_small t.shape t.store c.args.window.now t.fits c.requires c.index_of.result c.index_of.ensures
 
 pub returns : goal.returns
 returns c =
     let t = c.args.self.now in
-    entry_stored t.shape.states t.shape.lo t.shape.hi t.store c.args.window.now t.fits c.requires c.index_of.result c.index_of.ensures
+    entry_stored t.shape t.store c.args.window.now t.fits c.requires c.index_of.result c.index_of.ensures
