@@ -5,6 +5,7 @@ use Rattle.rings.specs.declared.Direction.{Direction}
 use Rattle.rings.specs.declared.Direction.TheVariants.{Forward, Backward}
 use Rattle.rings.specs.Line.{tabulate}
 use Rattle.rings.specs.Ring.{at, Ring}
+use Rattle.rings.specs.Limits.{max_states, max_width}
 use Rattle.rings.specs.Local.{Local, span, width, ring_map}
 use Rattle.rings.specs.Automaton.{Automaton, Inverse, toward}
 use Rattle.rules.specs.declared.Shape.{Shape}
@@ -82,9 +83,9 @@ lifted a = record {
   inverse = Some (lift_local Backward a.states a.forward);
 }
 
--- A rule can be lifted if its lift has at most 2 to the power 24 states and an interval of at most 64 cells.
+-- A rule can be lifted if its lift has no more states and no wider interval than an automaton may have.
 abbrev pub liftable : Shape → Bool
-liftable s = nat_le (s.states * s.states) 16777216 && nat_le (hull_span s.lo s.hi) 64
+liftable s = nat_le (s.states * s.states) max_states && nat_le (hull_span s.lo s.hi) max_width
 
 -- What a lift over a rule means: the lift of the rule, or the rule itself where it cannot be lifted.
 abbrev pub lift_or : Automaton → Automaton

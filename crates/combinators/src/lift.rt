@@ -142,8 +142,9 @@ impl Frame {
         ensures { result ≡ answer (lifted (R.Rule.meaning rule.now)).states (toward direction (lifted (R.Rule.meaning rule.now))) window.now }
     {
         check_window(window, self.lift.states, self.cells)?;
+        // an array, as the library uses no heap
         let mut store = [0; MAX_WIDTH];
-        let halves = &mut store[0..self.width];
+        let halves = &mut store[..self.width];
         self.read_halves(direction, window, halves);
         let value = rule.next(halves)?;
         Ok(rejoin(direction, self.states, value, window[self.own]))

@@ -163,3 +163,9 @@ stray_from_end i q c h = at_drop_all (stray_from i q) c i h
 -- in a ring that has a cell
 pub cell_at-some : (z : ℤ) (n : ℕ) → 0 < n → cell_at z n ≡ Some (floor_mod z n)
 cell_at-some z n h = rw (ne_eqb n 0 (λ e. omega (arith, e)))
+
+-- the cell that is told
+pub cell_at-is : (z : ℤ) (n i : ℕ) → 0 < n → Some i ≡ cell_at z n → i ≡ floor_mod z n
+cell_at-is z n i some e = is (e ∙ cell_at-some z n some) where
+  is : Some i ≡ Some (floor_mod z n) → i ≡ floor_mod z n
+  is h = cc

@@ -13,7 +13,7 @@ use Rattle.rings.specs.Local.{Local, span, width, ring_map}
 use Rattle.rings.specs.Automaton.{Automaton, Lawful, Narrow, Proper, Inverse, toward}
 use Rattle.rings.proofs.Integers.{floor_div_mod, floor_mod_lt}
 use Rattle.rings.proofs.Line.{tabulate-same, window_same, part_of_window, periodic_times}
-use Rattle.rings.proofs.Ring.{periodic_at, below_at, is_first_stray, cell_at-some}
+use Rattle.rings.proofs.Ring.{periodic_at, below_at, is_first_stray, cell_at-is}
 use Rattle.rings.proofs.Local.{length-window, codes-window, length-ring_map, ring_map-rotate}
 use Rattle.rules.specs.declared.fault.RuleFault.{RuleFault}
 use Rattle.rules.specs.declared.fault.RuleFault.TheVariants.{EmptyRing, LongRing, StrayCode, ShortBuffer, NoInverse}
@@ -64,11 +64,8 @@ part_of_unrolled c cells lo i w m some fits u =
     let e : pos i +ℤ lo +ℤ pos j ≡ floor_div lo n *ℤ pos n +ℤ (start +ℤ pos i +ℤ pos j) = omega (arith, ints, floor_div_mod lo n some) in
     sym (ap (at c) e ∙ periodic_times n (at c) (periodic_at c some) (floor_div lo n) (start +ℤ pos i +ℤ pos j)))
 
-some_is : {m n : ℕ} → Some m ≡ Some n → m ≡ n
-some_is e = cc
-
 pub cell_inside : (z : ℤ) (n i : ℕ) → 1 ≤ n → Some i ≡ cell_at z n → i < n
-cell_inside z n i some e = omega (arith, some_is (e ∙ cell_at-some z n some), floor_mod_lt z n some)
+cell_inside z n i some e = omega (arith, cell_at-is z n i some e, floor_mod_lt z n some)
 
 -- a ring unrolled from the beginning of an interval on, so far that each cell has its window
 record Unrolled (c cells : List ℕ) (lo hi : ℤ) (w : ℕ) : Type 0 where
@@ -102,7 +99,7 @@ module _ (q w : ℕ) (lo hi : ℤ) (c cells : List ℕ) (r : Ring q c) (u : Unro
 pub windows : (q : ℕ) (o : Option Local) (c cells : List ℕ) (lo hi : ℤ) (start w : ℕ) → Ring q c → ends o ≡ Some (lo, hi) → Some start ≡ cell_at lo (length c) → w ≡ span lo hi
     → cells ≡ window (at c) (pos start) (length c + w) → Windows q o c cells w
 windows q o c cells lo hi start w r e s wide u =
-    let at_start : start ≡ floor_mod lo (length c) = some_is (s ∙ cell_at-some lo (length c) r.some) in
+    let at_start : start ≡ floor_mod lo (length c) = cell_at-is lo (length c) start r.some s in
     unrolled_windows q w lo hi c cells r (record { wide = wide; all = u ∙ ap (λ p. window (at c) (pos p) (length c + w)) at_start }) o e
 
 pub length-image : (o : Option Local) (c : List ℕ) → length (image o c) ≡ length c

@@ -1,15 +1,14 @@
 -- Lemmas on the calls that encode and decode.
-use Rattle.std.proofs.Common.{◌≡◌, ℕ, ◌+◌, ◌-◌, ◌*◌, ◌/◌, ◌%◌, ◌^◌, ◌<◌, ◌≤◌, Bool, true, false, cond, eqb, ltb, leb, List, length, get_or, set, ℤ, is_err, Some, None, Ok, Err, Option, sym, refl, ap, ◌∙◌, subst, ⊎_elim, mul-le-mul_right, mod-lt, mod-eq_of_lt, div-add-mod', arith}
+use Rattle.std.proofs.Common.{◌≡◌, ℕ, ◌+◌, ◌-◌, ◌*◌, ◌/◌, ◌%◌, ◌^◌, ◌<◌, ◌≤◌, Bool, true, false, cond, eqb, ltb, leb, List, length, get_or, set, ℤ, Some, None, Ok, Option, sym, refl, ap, ◌∙◌, subst, ⊎_elim, mul-le-mul_right, mod-lt, mod-eq_of_lt, div-add-mod', arith}
 use native.Mathlib.Nat.{dvd-mul_left, mod-eq-sub-mod, mod-eq-zero_of_dvd, pow-le-pow_right}
 use Rattle.std.proofs.lemmas.List.{ext_get_or}
-use Rattle.std.proofs.lemmas.Bool.{true≢false, eqb-false, eqb-true, ltb-false, eq-eqb, ne_eqb, lt-leb, lt-ltb, le-ltb, cases_lt}
+use Rattle.std.proofs.lemmas.Bool.{eqb-false, eqb-true, ltb-false, eq-eqb, ne_eqb, lt-leb, lt-ltb, le-ltb, cases_lt}
 use Rattle.rings.specs.Integers.{floor_mod}
 use Rattle.rings.specs.Ring.{Codes, Ring, first_stray, IsFirstStray, rotate}
 use Rattle.rings.proofs.Integers.{floor_mod_lt}
 use Rattle.rings.proofs.Ring.{is_first_stray, length-rotate, slice_index-rotate}
 use Rattle.rules.specs.declared.fault.RuleFault.TheVariants.{EmptyRing, LongRing, ShortBuffer}
 use Rattle.towers.specs.declared.Place.{Place}
-use Rattle.towers.specs.declared.fault.TowerFault.{TowerFault}
 use Rattle.towers.specs.declared.fault.TowerFault.TheVariants.{Rule, Ragged}
 use Rattle.towers.specs.Towers.{Tower, Fitting}
 use Rattle.towers.specs.Numbers.{Standing}
@@ -132,14 +131,13 @@ module _ (t : Tower) (s : Standing t) (k n j q : ℕ) (some : 1 ≤ k) (size : n
       let top : t.top.states ≡ q ^ t.block = s.laws.states ∙ ap (λ x. x ^ t.block) (sym states) in
       record { cell_is = ap (λ x. x.cell) is; digit_is = digit; inside = rw (ap (λ x. x.cell) is) b.0; some = one; power = omega (arith, s.top.few) }
 
-  pub place_is_told : (f : TowerFault) → Err f ≡ place_answer t n j → ⊥
-  place_is_told f e =
+  pub place_is_told : place_answer t n j ≡ Ok (told t n j)
+  place_is_told =
       let whole : n % t.block ≡ 0 = ap (λ x. x % t.block) size ∙ mod-eq-zero_of_dvd t.block (dvd-mul_left t.block k) in
       let e1 : eqb n 0 ≡ false = ne_eqb n 0 (omega arith) in
       let e2 : eqb (n % t.block) 0 ≡ true = eq-eqb (n % t.block) 0 whole in
       let e3 : leb n j ≡ false = lt-leb n j inside in
-      let ok : place_answer t n j ≡ Ok (told t n j) = rw e1 (rw e2 (rw e3)) in
-      true≢false (ap is_err (e ∙ ok))
+      rw e1 (rw e2 (rw e3))
 
 -- the next digit of an encoded ring
 module _ (t : Tower) (s : Standing t) (k : ℕ) (c : List ℕ) (w : Fitting t k c) (cells : List ℕ) (j : ℕ) (inside : j < length c) (before : Written t k c cells j)

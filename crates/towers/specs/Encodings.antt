@@ -1,5 +1,6 @@
 -- What the calls that encode and decode a ring answer and write, and the laws of a tower for any number of steps.
 use Rattle.std.specs.Prelude.{◌≡◌, ℕ, ◌*◌, ◌/◌, ◌%◌, cond, List, length, ℤ, pos, ◌*ℤ◌, neg_ℤ, Some, None, Option, Result, ◌==◌, nat_lt}
+use Rattle.rings.specs.Limits.{max_cells}
 use Rattle.rings.specs.Ring.{first_stray, rotate}
 use Rattle.rings.specs.Automaton.{after, Goes}
 use Rattle.rings.specs.Refusals.{outcome, unless_refused}
@@ -19,7 +20,7 @@ stray_or_short None cells room = cond (nat_lt room cells) (Some (Rule ShortBuffe
 abbrev pub encode_fault : ℕ → ℕ → List ℕ → ℕ → Option TowerFault
 encode_fault q m c room =
     cond (length c == 0) (Some (Rule EmptyRing))
-    (cond (nat_lt 2048 (length c)) (Some (Rule LongRing))
+    (cond (nat_lt max_cells (length c)) (Some (Rule LongRing))
     (cond (length c % m == 0) (stray_or_short (first_stray q c) (length c / m) room) (Some Ragged)))
 
 -- Why a top ring of codes below q is not decoded into a buffer of so many cells, if it is not: no cell, too many bottom cells, a stray
@@ -27,7 +28,7 @@ encode_fault q m c room =
 abbrev pub decode_fault : ℕ → ℕ → List ℕ → ℕ → Option TowerFault
 decode_fault q m d room =
     cond (length d == 0) (Some (Rule EmptyRing))
-    (cond (nat_lt 2048 (length d * m)) (Some (Rule LongRing))
+    (cond (nat_lt max_cells (length d * m)) (Some (Rule LongRing))
     (stray_or_short (first_stray q d) (length d * m) room))
 
 abbrev pub encode_answer : Tower → List ℕ → List ℕ → Result (Unit {0}) TowerFault

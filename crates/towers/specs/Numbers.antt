@@ -1,5 +1,5 @@
 -- The numbers of a tower, and its laws with their bounds.
-use Rattle.std.specs.Prelude.{◌^◌, ◌≤◌, unsigned_abs}
+use Rattle.std.specs.Prelude.{ℕ, ◌≤◌, unsigned_abs}
 use Rattle.rings.specs.Automaton.{Bounded}
 use Rattle.rules.specs.Answers.{ends}
 use Rattle.towers.specs.declared.numbers.Numbers.{Numbers}
@@ -19,11 +19,21 @@ numbers_of t = record {
   bottom = t.bottom.states;
 }
 
+-- The most bottom cells in a top cell, the most bottom steps in a top step, and the most cells that a top step turns the ring by, either way.
+abbrev pub max_block : ℕ
+max_block = 65536
+
+abbrev pub max_steps : ℕ
+max_steps = 65536
+
+abbrev pub max_drift : ℕ
+max_drift = 16777216
+
 -- The laws of a tower, and the bounds of its numbers.
 pub record Standing (t : Tower) : Type 0 where
   pub laws : Stands t
   pub top : Bounded t.top
   pub bottom : Bounded t.bottom
-  pub block : t.block ≤ 65536
-  pub steps : t.steps ≤ 65536
-  pub drift : unsigned_abs t.drift ≤ 2 ^ 24
+  pub block : t.block ≤ max_block
+  pub steps : t.steps ≤ max_steps
+  pub drift : unsigned_abs t.drift ≤ max_drift

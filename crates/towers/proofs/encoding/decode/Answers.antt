@@ -1,4 +1,4 @@
-use Rattle.std.proofs.Common.{◌≡◌, ◌-◌, ◌*◌, ◌++◌, length, take, drop, Ok, ap, ◌∙◌, ap₂, arith, rules}
+use Rattle.std.proofs.Common.{◌≡◌, ◌*◌, ◌++◌, length, take, drop, Ok, ap, ◌∙◌, ap₂, arith, rules}
 use Rattle.std.proofs.lemmas.List.{length-take-le}
 use Rattle.rings.specs.Ring.{Ring}
 use Rattle.rules.specs.Maps.{written_over}
@@ -21,8 +21,8 @@ write_decoded-requires g c =
     let passed : Ok tt ≡ outcome (decode_fault t.top.states t.block ring (length buffer)) = search rules in
     let f = accepted (decode_fault t.top.states t.block ring (length buffer)) passed in
     let m = decodable t.top.states t.block ring (length buffer) f in
-    let size : length ring * c.numbers-numbers.result.block - 0 ≡ length ring * t.block = omega (arith, ap (λ x. length ring * x.block) x) in
-    let len : length (take (length ring * c.numbers-numbers.result.block - 0) buffer) ≡ length ring * t.block = ap (λ k. length (take k buffer)) size ∙ length-take-le (length ring * t.block) buffer m.accepts.fits in
+    let size : length ring * c.numbers-numbers.result.block ≡ length ring * t.block = omega (arith, ap (λ x. length ring * x.block) x) in
+    let len : length (take (length ring * c.numbers-numbers.result.block) buffer) ≡ length ring * t.block = ap (λ k. length (take k buffer)) size ∙ length-take-le (length ring * t.block) buffer m.accepts.fits in
     record { states = ap (λ x. x.bottom) x; good = record { some = m.some; codes = m.accepts.codes }; size = len }
 
 pub returns : goal.returns
@@ -36,7 +36,7 @@ returns g c =
     let f = accepted (decode_fault t.top.states t.block ring (length buffer)) passed in
     let m = decodable t.top.states t.block ring (length buffer) f in
     let good : Ring t.top.states ring = record { some = m.some; codes = m.accepts.codes } in
-    let len : length ring * c.numbers-numbers.result.block - 0 ≡ length (t.decode ring) = omega (arith, ap (λ x. length ring * x.block) x, (s.laws.fitting_decode ring good).size) in
+    let len : length ring * c.numbers-numbers.result.block ≡ length (t.decode ring) = omega (arith, ap (λ x. length ring * x.block) x, (s.laws.fitting_decode ring good).size) in
     record {
       answer = ap outcome f;
       buffer = ap₂ ◌++◌ c.write_decoded.ensures (ap (λ k. drop k buffer) len) ∙ ap (λ r. unless_refused r (written_over (t.decode ring) buffer) buffer) f;

@@ -1,4 +1,4 @@
-use Rattle.std.proofs.Common.{◌≡◌, ◌-◌, ◌*◌, ◌/◌, ◌≤◌, false, eqb, ◌++◌, length, take, drop, None, Ok, Err, sym, ap, ◌∙◌, ap₂, arith, w64, rules}
+use Rattle.std.proofs.Common.{◌≡◌, ◌*◌, ◌/◌, ◌≤◌, false, eqb, ◌++◌, length, take, drop, None, Ok, Err, sym, ap, ◌∙◌, ap₂, arith, w64, rules}
 use Rattle.std.proofs.lemmas.List.{length-take-le}
 use Rattle.std.proofs.lemmas.Int.{to_z-of_z}
 use Rattle.rings.specs.Ring.{first_stray, rotate}
@@ -57,7 +57,7 @@ write_decoded-requires g c =
     let ring = c.args.ring.now in
     let buffer = c.args.buffer.now in
     let at = (goal.at.write_decoded-requires g c).In_ok-check_cells in
-    let same : length ring * c.numbers-numbers.result.block - 0 ≡ length ring * t.block = omega (arith, size g at) in
+    let same : length ring * c.numbers-numbers.result.block ≡ length ring * t.block = omega (arith, size g at) in
     record {
       states = ap (λ x. x.bottom) c.numbers-numbers.ensures.answer;
       good = (good g at).ring;
@@ -79,7 +79,7 @@ returns g c =
     let at = (goal.at.returns g c).In_ok-check_cells in
     let f : None ≡ rotated_fault t.top.states t.block ring (length buffer) = unrefused g at ∙ rotated_fault_else t.top.states t.block ring (length buffer) s.laws.block (some g at) in
     let turned : c.rotate_cells.new.ring ≡ rotate z (t.decode ring) = c.rotate_cells.ensures ∙ ap₂ rotate (to_z-of_z w64 z c.ranges.rotation) c.write_decoded.ensures in
-    let len : length ring * c.numbers-numbers.result.block - 0 ≡ length (rotate z (t.decode ring)) = omega (arith, size g at, (s.laws.fitting_decode ring (good g at).ring).size, length-rotate z (t.decode ring)) in
+    let len : length ring * c.numbers-numbers.result.block ≡ length (rotate z (t.decode ring)) = omega (arith, size g at, (s.laws.fitting_decode ring (good g at).ring).size, length-rotate z (t.decode ring)) in
     record {
       answer = ap outcome f;
       buffer = ap₂ ◌++◌ turned (ap (λ k. drop k buffer) len) ∙ ap (λ r. unless_refused r (written_over (rotate z (t.decode ring)) buffer) buffer) f;

@@ -1,4 +1,4 @@
-use Rattle.std.proofs.Common.{◌≡◌, ◌-◌, ◌/◌, ◌++◌, length, take, drop, Ok, sym, ap, ◌∙◌, subst, ap₂, arith, rules}
+use Rattle.std.proofs.Common.{◌≡◌, ◌/◌, ◌++◌, length, take, drop, Ok, sym, ap, ◌∙◌, subst, ap₂, arith, rules}
 use Rattle.std.proofs.lemmas.List.{length-take-le}
 use Rattle.rules.specs.Maps.{written_over}
 use Rattle.towers.specs.Towers.{Fitting}
@@ -22,8 +22,8 @@ write_encoded-requires g c =
     let passed : Ok tt ≡ outcome (encode_fault t.bottom.states t.block ring (length buffer)) = search rules in
     let f = accepted (encode_fault t.bottom.states t.block ring (length buffer)) passed in
     let m = encodable t.bottom.states t.block ring (length buffer) f in
-    let size : length ring / c.numbers-numbers.result.block - 0 ≡ length ring / t.block = omega (arith, ap (λ x. length ring / x.block) x) in
-    let len : length (take (length ring / c.numbers-numbers.result.block - 0) buffer) ≡ length ring / t.block = ap (λ k. length (take k buffer)) size ∙ length-take-le (length ring / t.block) buffer m.accepts.fits in
+    let size : length ring / c.numbers-numbers.result.block ≡ length ring / t.block = omega (arith, ap (λ x. length ring / x.block) x) in
+    let len : length (take (length ring / c.numbers-numbers.result.block) buffer) ≡ length ring / t.block = ap (λ k. length (take k buffer)) size ∙ length-take-le (length ring / t.block) buffer m.accepts.fits in
     record { states = ap (λ x. x.bottom) x; fitting = subst (λ k. Fitting t k ring) (sym len) (fitting_of t s ring (length buffer) m) }
 
 pub returns : goal.returns
@@ -36,8 +36,8 @@ returns g c =
     let passed : Ok tt ≡ outcome (encode_fault t.bottom.states t.block ring (length buffer)) = search rules in
     let f = accepted (encode_fault t.bottom.states t.block ring (length buffer)) passed in
     let m = encodable t.bottom.states t.block ring (length buffer) f in
-    let size : length ring / c.numbers-numbers.result.block - 0 ≡ length ring / t.block = omega (arith, ap (λ x. length ring / x.block) x) in
-    let len : length ring / c.numbers-numbers.result.block - 0 ≡ length (t.encode ring) = size ∙ sym (s.laws.length_encode (length ring / t.block) ring (fitting_of t s ring (length buffer) m)) in
+    let size : length ring / c.numbers-numbers.result.block ≡ length ring / t.block = omega (arith, ap (λ x. length ring / x.block) x) in
+    let len : length ring / c.numbers-numbers.result.block ≡ length (t.encode ring) = size ∙ sym (s.laws.length_encode (length ring / t.block) ring (fitting_of t s ring (length buffer) m)) in
     record {
       answer = ap outcome f;
       buffer = ap₂ ◌++◌ c.write_encoded.ensures (ap (λ k. drop k buffer) len) ∙ ap (λ r. unless_refused r (written_over (t.encode ring) buffer) buffer) f;

@@ -1,21 +1,26 @@
-use Rattle.std.proofs.Common.{◌≡◌, length, ap, ◌∙◌, arith, w64, to_z, of_z}
+use Rattle.std.proofs.Common.{◌≡◌, length, sym, ap, ◌∙◌, subst, refl, arith, w64, to_z, of_z}
 use Rattle.std.proofs.lemmas.Int.{to_z-of_z}
+use Rattle.std.specs.Option.{IsSome}
 use Rattle.rings.specs.Integers.{floor_mod}
 use Rattle.rings.specs.Ring.{cell_at}
 use Rattle.rings.proofs.Integers.{floor_mod_lt}
-use Rattle.rings.proofs.Ring.{cell_at-some}
+use Rattle.rings.proofs.Ring.{cell_at-some, cell_at-is}
 use Rattle.towers.proofs.Calls.{rotated_is}
 use Rattle.towers.proofs.encoding.rotate_cells.Goals as goal
+
+pub unwrap-requires : goal.unwrap-requires
+unwrap-requires c = subst IsSome (sym (c.cell_at.ensures ∙ cell_at-some (to_z w64 (of_z w64 c.args.rotation)) (length c.args.ring.now) c.requires)) refl
 
 pub rotate_left-requires : goal.rotate_left-requires
 rotate_left-requires c =
     let z = to_z w64 (of_z w64 c.args.rotation) in
     let n = length c.args.ring.now in
-    omega (arith, c.cell_at.ensures, cell_at-some z n c.requires, floor_mod_lt z n c.requires)
+    omega (arith, cell_at-is z n c.unwrap.result c.requires (sym c.unwrap.ensures ∙ c.cell_at.ensures), floor_mod_lt z n c.requires)
 
 pub returns : goal.returns
 returns c =
     let ring = c.args.ring.now in
-    let e : c.cell_at.result ≡ floor_mod c.args.rotation (length ring) =
-    c.cell_at.ensures ∙ ap (λ z. cell_at z (length ring)) (to_z-of_z w64 c.args.rotation c.ranges.rotation) ∙ cell_at-some c.args.rotation (length ring) c.requires in
-    rotated_is c.args.rotation ring c.rotate_left.new.self c.cell_at.result e c.rotate_left.ensures.len c.rotate_left.ensures.by_index.0 c.rotate_left.ensures.by_index.1
+    let n = length ring in
+    let e : c.unwrap.result ≡ floor_mod c.args.rotation n =
+    cell_at-is c.args.rotation n c.unwrap.result c.requires (sym c.unwrap.ensures ∙ c.cell_at.ensures ∙ ap (λ z. cell_at z n) (to_z-of_z w64 c.args.rotation c.ranges.rotation)) in
+    rotated_is c.args.rotation ring c.rotate_left.new.self c.unwrap.result e c.rotate_left.ensures.len c.rotate_left.ensures.by_index.0 c.rotate_left.ensures.by_index.1

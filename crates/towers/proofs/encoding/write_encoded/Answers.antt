@@ -1,9 +1,9 @@
-use Rattle.std.proofs.Common.{◌≡◌, ◌+◌, length, get_or, replicate, sym, ap, ◌∙◌, subst, arith}
+use Rattle.std.proofs.Common.{◌≡◌, length, get_or, replicate, sym, ap, ◌∙◌, subst, refl, arith}
 use Rattle.std.proofs.lemmas.List.{get_or-replicate}
+use Rattle.std.specs.Result.{IsOk}
 use Rattle.towers.proofs.Encodings.{Written, written_none, written_all}
 use Rattle.towers.proofs.Calls.{place_in, place_is_told, sum_small, written_next}
 use Rattle.towers.proofs.encoding.write_encoded.Goals as goal
-use Rattle.towers.proofs.encoding.write_encoded.Goals.{in-Ok, in_default}
 
 pub loop-j-init : goal.loop-j-init
 loop-j-init g c =
@@ -13,11 +13,19 @@ loop-j-init g c =
     written_none t (g.met.T.Tower.stands c.args.tower.now).laws n c.args.ring.now c.requires.fitting c.fill.new.self c.fill.ensures.len
     (λ i h. ap (λ l. get_or l i 0) zeros ∙ get_or-replicate n i 0 0 h)
 
+pub unwrap-place-requires : goal.unwrap-place-requires
+unwrap-place-requires g c =
+    let t = g.T.Tower.tower c.args.tower.now in
+    let w = c.requires.fitting in
+    subst IsOk
+    (sym (c.place.ensures.answer ∙ place_is_told t (g.met.T.Tower.stands c.args.tower.now) (length c.args.cells.now) (length c.args.ring.now) c.loop-j.j c.args.states w.some w.size c.loop-j-test.true c.requires.states))
+    refl
+
 pub pow-requires : goal.pow-requires
 pow-requires g c =
     let t = g.T.Tower.tower c.args.tower.now in
     let w = c.requires.fitting in
-    let p = place_in t (g.met.T.Tower.stands c.args.tower.now) (length c.args.cells.now) (length c.args.ring.now) c.loop-j.j c.args.states w.some w.size c.loop-j-test.true c.requires.states c.in-Ok.place c.in-Ok.ensures.answer in
+    let p = place_in t (g.met.T.Tower.stands c.args.tower.now) (length c.args.cells.now) (length c.args.ring.now) c.loop-j.j c.args.states w.some w.size c.loop-j-test.true c.requires.states c.unwrap-place.result (sym c.unwrap-place.ensures ∙ c.place.ensures.answer) in
     omega (arith, p.power)
 
 pub overflow_mul-cells : goal.overflow_mul-cells
@@ -25,8 +33,8 @@ overflow_mul-cells g c =
     let t = g.T.Tower.tower c.args.tower.now in
     let w = c.requires.fitting in
     let s = g.met.T.Tower.stands c.args.tower.now in
-    let p = place_in t s (length c.args.cells.now) (length c.args.ring.now) c.loop-j.j c.args.states w.some w.size c.loop-j-test.true c.requires.states c.in-Ok.place c.in-Ok.ensures.answer in
-    let small = sum_small t s (length c.args.cells.now) c.args.ring.now w c.loop-j.cells c.loop-j.j c.loop-j-test.true c.loop-j.invariant c.args.states c.pow.result c.in-Ok.place p c.requires.states c.pow.ensures in
+    let p = place_in t s (length c.args.cells.now) (length c.args.ring.now) c.loop-j.j c.args.states w.some w.size c.loop-j-test.true c.requires.states c.unwrap-place.result (sym c.unwrap-place.ensures ∙ c.place.ensures.answer) in
+    let small = sum_small t s (length c.args.cells.now) c.args.ring.now w c.loop-j.cells c.loop-j.j c.loop-j-test.true c.loop-j.invariant c.args.states c.pow.result c.unwrap-place.result p c.requires.states c.pow.ensures in
     omega arith
 
 pub overflow_add-cells : goal.overflow_add-cells
@@ -34,8 +42,8 @@ overflow_add-cells g c =
     let t = g.T.Tower.tower c.args.tower.now in
     let w = c.requires.fitting in
     let s = g.met.T.Tower.stands c.args.tower.now in
-    let p = place_in t s (length c.args.cells.now) (length c.args.ring.now) c.loop-j.j c.args.states w.some w.size c.loop-j-test.true c.requires.states c.in-Ok.place c.in-Ok.ensures.answer in
-    let small = sum_small t s (length c.args.cells.now) c.args.ring.now w c.loop-j.cells c.loop-j.j c.loop-j-test.true c.loop-j.invariant c.args.states c.pow.result c.in-Ok.place p c.requires.states c.pow.ensures in
+    let p = place_in t s (length c.args.cells.now) (length c.args.ring.now) c.loop-j.j c.args.states w.some w.size c.loop-j-test.true c.requires.states c.unwrap-place.result (sym c.unwrap-place.ensures ∙ c.place.ensures.answer) in
+    let small = sum_small t s (length c.args.cells.now) c.args.ring.now w c.loop-j.cells c.loop-j.j c.loop-j-test.true c.loop-j.invariant c.args.states c.pow.result c.unwrap-place.result p c.requires.states c.pow.ensures in
     omega arith
 
 pub loop-j-preserved : goal.loop-j-preserved
@@ -46,12 +54,8 @@ loop-j-preserved g c =
     let ring = c.args.ring.now in
     let k = length c.args.cells.now in
     let j = c.loop-j.j in
-    elim c.match-place.branch [
-      | in-Ok v ↦
-          let p = place_in t s k (length ring) j c.args.states w.some w.size c.loop-j-test.true c.requires.states v.in-Ok.place v.in-Ok.ensures.answer in
-          subst (λ l. Written t k ring l (j + 1)) (sym v.cells-is) (written_next t s k ring w c.loop-j.cells j c.loop-j-test.true c.loop-j.invariant c.args.states v.pow.result v.in-Ok.place p c.requires.states v.pow.ensures)
-      | in_default v ↦ absurd (place_is_told t s k (length ring) j c.args.states w.some w.size c.loop-j-test.true c.requires.states _ v.in_default.ensures.answer)
-    ]
+    let p = place_in t s k (length ring) j c.args.states w.some w.size c.loop-j-test.true c.requires.states c.unwrap-place.result (sym c.unwrap-place.ensures ∙ c.place.ensures.answer) in
+    written_next t s k ring w c.loop-j.cells j c.loop-j-test.true c.loop-j.invariant c.args.states c.pow.result c.unwrap-place.result p c.requires.states c.pow.ensures
 
 pub returns : goal.returns
 returns g c =
