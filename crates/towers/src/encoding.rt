@@ -18,14 +18,9 @@ pub fn encode<T: Tower>(tower: &T, ring: &[u32], buffer: &mut [u32]) -> Result<(
     ensures simulates { Simulates (T.Tower.tower tower.now) }
 {
     let numbers = tower.numbers();
-    let block = numbers.block as usize;
-    check_bottom(numbers.bottom, block, ring, buffer.len())?;
-    write_encoded(
-        tower,
-        numbers.bottom,
-        ring,
-        &mut buffer[..ring.len() / block],
-    );
+    check_bottom(numbers, ring, buffer.len())?;
+    let cells = &mut buffer[..ring.len() / numbers.block as usize];
+    write_encoded(tower, numbers.bottom, ring, cells);
     Ok(())
 }
 
@@ -37,14 +32,9 @@ pub fn decode<T: Tower>(tower: &T, ring: &[u32], buffer: &mut [u32]) -> Result<(
     ensures simulates { Simulates (T.Tower.tower tower.now) }
 {
     let numbers = tower.numbers();
-    let block = numbers.block as usize;
-    check_top(numbers.states, block, ring, buffer.len())?;
-    write_decoded(
-        tower,
-        numbers.bottom,
-        ring,
-        &mut buffer[..ring.len() * block],
-    );
+    check_top(numbers, ring, buffer.len())?;
+    let cells = &mut buffer[..ring.len() * numbers.block as usize];
+    write_decoded(tower, numbers.bottom, ring, cells);
     Ok(())
 }
 
@@ -78,11 +68,12 @@ fn rotate_cells(rotation: i64, ring: &mut [u32])
     ring.rotate_left(cell_at(rotation, ring.len()).unwrap());
 }
 
-// Refuses a bottom ring that is not encoded into a buffer of `room` cells.
-fn check_bottom(states: u32, block: usize, ring: &[u32], room: usize) -> Result<(), TowerFault>
-    requires { 1 ≤ block }
-    ensures { result ≡ outcome (encode_fault states block ring.now room) }
+// Refuses a bottom ring that a tower with these numbers does not encode into a buffer of `room` cells.
+fn check_bottom(numbers: Numbers, ring: &[u32], room: usize) -> Result<(), TowerFault>
+    requires { 1 ≤ numbers.block }
+    ensures { result ≡ outcome (encode_fault numbers.bottom numbers.block ring.now room) }
 {
+    let block = numbers.block as usize;
     if ring.is_empty() {
         return Err(TowerFault::Rule(RuleFault::EmptyRing));
     }
@@ -92,21 +83,22 @@ fn check_bottom(states: u32, block: usize, ring: &[u32], room: usize) -> Result<
     if ring.len() % block != 0 {
         return Err(TowerFault::Ragged);
     }
-    check_cells(ring, states, ring.len() / block, room)
+    check_cells(ring, numbers.bottom, ring.len() / block, room)
 }
 
-// Refuses a top ring that is not decoded into a buffer of `room` cells.
-fn check_top(states: u32, block: usize, ring: &[u32], room: usize) -> Result<(), TowerFault>
-    requires { 1 ≤ block }
-    ensures { result ≡ outcome (decode_fault states block ring.now room) }
+// Refuses a top ring that a tower with these numbers does not decode into a buffer of `room` cells.
+fn check_top(numbers: Numbers, ring: &[u32], room: usize) -> Result<(), TowerFault>
+    requires { 1 ≤ numbers.block }
+    ensures { result ≡ outcome (decode_fault numbers.states numbers.block ring.now room) }
 {
+    let block = numbers.block as usize;
     if ring.is_empty() {
         return Err(TowerFault::Rule(RuleFault::EmptyRing));
     }
     if ring.len() > MAX_CELLS / block {
         return Err(TowerFault::Rule(RuleFault::LongRing));
     }
-    check_cells(ring, states, ring.len() * block, room)
+    check_cells(ring, numbers.states, ring.len() * block, room)
 }
 
 // Refuses a ring with a stray code, and then a buffer of `room` cells that has fewer than `cells`.
