@@ -20,7 +20,7 @@ use Rattle.rings.proofs.Line.{length-tabulate, slice_index-tabulate, is_tabulate
 use Rattle.rings.proofs.Local.{length-ring_map, slice_index-ring_map}
 use Rattle.machines.specs.declared.transition.Move.{Move}
 use Rattle.machines.specs.declared.transition.Move.TheVariants.{Left, Stay, Right}
-use Rattle.machines.specs.Turing.{Machine, ProperMachine, head_number, numbered_head, code_of, symbol_of, head_of, same_move, written, next_symbol, moving, arriving, next_head, next_code, turing, Configuration, ProperConfiguration, moved, transition_at, step, head_on, cell, drawing, StepsAsItsMachine}
+use Rattle.machines.specs.Turing.{Machine, ProperMachine, head_number, numbered_head, code_of, symbol_of, head_of, same_move, acting, written, next_symbol, moving, arriving, next_head, next_code, turing, Configuration, ProperConfiguration, moved, transition_at, step, head_on, cell, drawing, StepsAsItsMachine}
 
 -- codes
 
@@ -43,7 +43,7 @@ head_of_code_of a y o h =
 abbrev pub Fitting : ℕ → Option ℕ → Type 0
 Fitting h o = IfSome o (λ z. z < h)
 
-pub fitting_or_other : (h : ℕ) (o p : Option ℕ) → Fitting h o → Fitting h p → Fitting h (option_or o p)
+fitting_or_other : (h : ℕ) (o p : Option ℕ) → Fitting h o → Fitting h p → Fitting h (option_or o p)
 fitting_or_other h None p f g = g
 fitting_or_other h (Some z) p f g = f
 
@@ -57,11 +57,11 @@ code_of_lt : (a h y : ℕ) (o : Option ℕ) → y < a → Fitting h o → code_o
 code_of_lt a h y o l f = omega (arith, mul-add-lt (head_number o) a y (h + 1) (head_number_lt h o f) l, mul_comm a (head_number o))
 
 module _ (m : Machine) (p : ProperMachine m) where
-  written_lt : (y : ℕ) (o : Option ℕ) → y < m.symbols → Fitting m.heads o → written m y o < m.symbols
+  written_lt : (y : ℕ) (o : Option ℕ) → y < m.symbols → Fitting m.heads o → written y (acting m y o) < m.symbols
   written_lt y None l f = l
   written_lt y (Some z) l f = p.writes z y f l
 
-  fitting_moving : (v : Move) (y : ℕ) (o : Option ℕ) → y < m.symbols → Fitting m.heads o → Fitting m.heads (moving m v y o)
+  fitting_moving : (v : Move) (y : ℕ) (o : Option ℕ) → y < m.symbols → Fitting m.heads o → Fitting m.heads (moving v (acting m y o))
   fitting_moving v y None l f = tt
   fitting_moving v y (Some z) l f = by (same_move (m.transition z y).step v) where
     by : (b : Bool) → Fitting m.heads (then_some b (m.transition z y).next)
@@ -76,14 +76,16 @@ module _ (m : Machine) (p : ProperMachine m) where
     pub next_symbol_lt : next_symbol m x < m.symbols
     next_symbol_lt = written_lt (symbol_of m.symbols x) (head_of m.symbols x) (mod-lt x p.some_symbol) fitting_head
 
-    pub fitting_arriving : (v : Move) → Fitting m.heads (arriving m v x)
+    fitting_arriving : (v : Move) → Fitting m.heads (arriving m v x)
     fitting_arriving v = fitting_moving v (symbol_of m.symbols x) (head_of m.symbols x) (mod-lt x p.some_symbol) fitting_head
 
+  pub fitting_next_head : (left own right : ℕ) → left < (turing m).states → own < (turing m).states → right < (turing m).states → Fitting m.heads (next_head m left own right)
+  fitting_next_head left own right f g h =
+      fitting_or_other m.heads (arriving m Right left) (option_or (arriving m Stay own) (arriving m Left right)) (fitting_arriving left f Right)
+      (fitting_or_other m.heads (arriving m Stay own) (arriving m Left right) (fitting_arriving own g Stay) (fitting_arriving right h Left))
+
   next_code_lt : (left own right : ℕ) → left < (turing m).states → own < (turing m).states → right < (turing m).states → next_code m left own right < (turing m).states
-  next_code_lt left own right f g h =
-      code_of_lt m.symbols m.heads (next_symbol m own) (next_head m left own right) (next_symbol_lt own g)
-      (fitting_or_other m.heads (arriving m Right left) (option_or (arriving m Stay own) (arriving m Left right)) (fitting_arriving left f Right)
-      (fitting_or_other m.heads (arriving m Stay own) (arriving m Left right) (fitting_arriving own g Stay) (fitting_arriving right h Left)))
+  next_code_lt left own right f g h = code_of_lt m.symbols m.heads (next_symbol m own) (next_head m left own right) (next_symbol_lt own g) (fitting_next_head left own right f g h)
 
   pub turing_lawful : m.symbols * (m.heads + 1) ≤ 2 ^ 24 → Lawful (turing m)
   turing_lawful few = record {
@@ -162,10 +164,10 @@ module _ (m : Machine) (c : Configuration) (p : ProperConfiguration m c) where
       ap₂ f (symbol_of_code_of m.symbols (slice_index c.tape i) (head_on c i) l) (head_of_code_of m.symbols (slice_index c.tape i) (head_on c i) l)
 
   next_symbol_cell : (i : ℕ) → i < length c.tape → next_symbol m (cell m c i) ≡ slice_index (step m c).tape i
-  next_symbol_cell i h = read_cell (written m) i h ∙ grind (arith, nat_tests, get_or-set_same, get_or-set_other, cases_eq i c.position)
+  next_symbol_cell i h = read_cell (λ y o. written y (acting m y o)) i h ∙ grind (arith, nat_tests, get_or-set_same, get_or-set_other, cases_eq i c.position)
 
   arriving_cell : (v : Move) (i : ℕ) → i < length c.tape → arriving m v (cell m c i) ≡ then_some (same_move (transition_at m c).step v && i == c.position) (transition_at m c).next
-  arriving_cell v i h = read_cell (moving m v) i h ∙ grind (arith, nat_tests, cases_eq i c.position)
+  arriving_cell v i h = read_cell (λ y o. moving v (acting m y o)) i h ∙ grind (arith, nat_tests, cases_eq i c.position)
 
   -- a head that comes to the cell i by the move v, from the cell z
   arriving_drawing : (v : Move) (i : ℕ) (z : ℤ) → z ≡ pos i +ℤ neg_ℤ (shift v) → i < length c.tape

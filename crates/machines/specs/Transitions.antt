@@ -1,5 +1,5 @@
 -- The list of transitions of a machine, how one is entered, and the numbers of the moves.
-use Rattle.std.specs.Prelude.{◌≡◌, ℕ, ◌+◌, ◌*◌, ◌/◌, ◌%◌, ◌<◌, Bool, cond, ◌&&◌, List, map, IfSome, Some, None, Ok, Err, Option, Result, ◌==◌, nat_le, nat_lt, slice_index_or, slice_set}
+use Rattle.std.specs.Prelude.{◌≡◌, ℕ, ◌+◌, ◌*◌, ◌/◌, ◌%◌, ◌<◌, Bool, cond, ◌&&◌, List, map, IfSome, Some, None, Ok, Err, Option, Result, ◌==◌, nat_lt, slice_index_or, slice_set}
 use Rattle.std.specs.List.{range_with_len}
 use Rattle.std.specs.Option.{ok_or}
 use Rattle.rules.specs.declared.fault.RuleFault.{RuleFault}
@@ -8,6 +8,7 @@ use Rattle.machines.specs.declared.transition.Transition.{Transition}
 use Rattle.machines.specs.declared.transition.Move.{Move}
 use Rattle.machines.specs.declared.transition.UnknownMove.{UnknownMove}
 use Rattle.machines.specs.declared.transition.Move.TheVariants.{Left, Stay, Right}
+use Rattle.machines.specs.Sizes.{max_transitions}
 use Rattle.machines.specs.Turing.{Machine}
 
 -- The number of the kind of rule.
@@ -40,10 +41,6 @@ blank = record { write = 0; step = Left; next = 0 }
 abbrev pub listed : ℕ → ℕ → List Transition → Machine
 listed a h list = record { symbols = a; heads = h; transition = λ z y. slice_index_or list (z * a + y) blank }
 
--- The sizes of a machine: 1 to 64 symbols, 1 to 64 states of a head, and at most 512 transitions.
-abbrev pub machine_fits : ℕ → ℕ → Bool
-machine_fits a h = nat_le 1 a && (nat_le a 64 && (nat_le 1 h && (nat_le h 64 && nat_le (a * h) 512)))
-
 -- The transition writes one of a symbols and leads to one of h states.
 abbrev pub transition_fits : ℕ → ℕ → Transition → Bool
 transition_fits a h t = nat_lt t.write a && nat_lt t.next h
@@ -54,7 +51,7 @@ new_transition a h i = cond (nat_lt i (a * h)) (idle (i / a) (i % a)) (idle 0 0)
 
 -- The list of a new machine.
 unfoldable pub new_list : ℕ → ℕ → List Transition
-new_list a h = map (new_transition a h) (range_with_len 0 512)
+new_list a h = map (new_transition a h) (range_with_len 0 max_transitions)
 
 -- Nothing changes: in each of its states, at each of its symbols, the machine writes what it reads, stays and keeps its state.
 abbrev pub Idles : Machine → Type 0

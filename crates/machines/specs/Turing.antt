@@ -55,23 +55,32 @@ same_move Right Left = false
 same_move Right Stay = false
 same_move Right Right = true
 
--- The next symbol of a cell with the symbol y and the head o, if there is one.
-abbrev pub written : Machine → ℕ → Option ℕ → ℕ
-written m y None = y
-written m y (Some z) = (m.transition z y).write
+-- The transition that the head o on a cell with the symbol y makes, if there is a head.
+abbrev pub acting : Machine → ℕ → Option ℕ → Option Transition
+acting m y None = None
+acting m y (Some z) = Some (m.transition z y)
+
+-- The transition that the head on a cell with the code x makes, if there is a head.
+abbrev pub acts : Machine → ℕ → Option Transition
+acts m x = acting m (symbol_of m.symbols x) (head_of m.symbols x)
+
+-- The next symbol of a cell with the symbol y, where the transition o is made, if there is one.
+abbrev pub written : ℕ → Option Transition → ℕ
+written y None = y
+written y (Some t) = t.write
 
 -- The next symbol of a cell with the code x.
 abbrev pub next_symbol : Machine → ℕ → ℕ
-next_symbol m x = written m (symbol_of m.symbols x) (head_of m.symbols x)
+next_symbol m x = written (symbol_of m.symbols x) (acts m x)
 
--- The next state of the head o on the symbol y, if there is a head and it makes this move.
-abbrev pub moving : Machine → Move → ℕ → Option ℕ → Option ℕ
-moving m v y None = None
-moving m v y (Some z) = then_some (same_move (m.transition z y).step v) (m.transition z y).next
+-- The next state of the head that makes the transition o, if there is one and it is this move.
+abbrev pub moving : Move → Option Transition → Option ℕ
+moving v None = None
+moving v (Some t) = then_some (same_move t.step v) t.next
 
 -- The next state of the head of a cell with the code x, if there is a head and it makes this move.
 abbrev pub arriving : Machine → Move → ℕ → Option ℕ
-arriving m v x = moving m v (symbol_of m.symbols x) (head_of m.symbols x)
+arriving m v x = moving v (acts m x)
 
 -- The next head of a cell: the one that comes from the left, else its own that stays, else the one that comes from the right.
 abbrev pub next_head : Machine → ℕ → ℕ → ℕ → Option ℕ

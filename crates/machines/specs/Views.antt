@@ -7,7 +7,7 @@ use Rattle.machines.specs.Transitions.{listed}
 
 -- The machine that a value stands for.
 abbrev pub machine_of : Turing → Machine
-machine_of t = listed t.symbols t.heads t.transitions.list
+machine_of t = listed t.sizes.symbols t.sizes.heads t.transitions.list
 
 -- The configuration that a value stands for.
 abbrev pub configuration_of : Drawn → Configuration
@@ -15,4 +15,4 @@ configuration_of c = record { tape = c.tape.now; position = c.position; state = 
 
 -- The number is the code of a cell.
 abbrev pub IsCode : Turing → ℕ → Type 0
-IsCode t x = x < t.symbols * (t.heads + 1)
+IsCode t x = x < t.sizes.symbols * (t.sizes.heads + 1)

@@ -3,6 +3,7 @@
 
 mod configuration;
 mod machine;
+mod sizes;
 mod transition;
 mod turing;
 

@@ -1,16 +1,18 @@
 // What a Turing machine does at a symbol, and the list of all that it does.
-ghost use Rattle.std.specs.Prelude.{◌≡◌, ◌<◌, true, slice_set};
-ghost use Rattle.machines.specs.Transitions.{move_number, move_of, machine_fits, new_transition, new_list};
+ghost use Rattle.std.specs.Prelude.{◌≡◌, ◌<◌, slice_set};
+ghost use Rattle.machines.specs.Sizes.{max_transitions};
+ghost use Rattle.machines.specs.Transitions.{move_number, move_of, new_list};
 
+use crate::sizes::{MAX_TRANSITIONS, Sizes};
 use std::error::Error;
 use std::{array, fmt};
 
-// How a head moves.
+// How a head moves, with the number that files hold.
 #[derive(Clone, Copy, PartialEq, Eq, Debug)]
 pub enum Move {
-    Left,
-    Stay,
-    Right,
+    Left = 0,
+    Stay = 1,
+    Right = 2,
 }
 
 // A number that is that of no move.
@@ -21,11 +23,7 @@ impl From<Move> for u32 {
     ghost from_gives = { λ step number. number ≡ move_number step };
 
     fn from(step: Move) -> u32 {
-        match step {
-            Move::Left => 0,
-            Move::Stay => 1,
-            Move::Right => 2,
-        }
+        step as u32
     }
 }
 
@@ -60,8 +58,6 @@ pub struct Transition {
     pub next: u32,
 }
 
-pub(crate) const MAX_TRANSITIONS: usize = 512;
-
 // The transitions of a machine. Users ask for this form: a plain struct inside another, whose own function changes one element.
 #[derive(Clone, Copy)]
 pub(crate) struct Transitions {
@@ -70,33 +66,19 @@ pub(crate) struct Transitions {
 
 impl Transitions {
     // The transitions of a machine that changes nothing.
-    pub(crate) fn idle(symbols: u32, heads: u32) -> Transitions
-        requires { machine_fits symbols heads ≡ true }
-        ensures { result.list ≡ new_list symbols heads }
+    pub(crate) fn idle(sizes: Sizes) -> Transitions
+        ensures { result.list ≡ new_list sizes.symbols sizes.heads }
     {
         Transitions {
-            list: array::from_fn(|index| idle_transition(symbols, heads, index as u32)),
+            list: array::from_fn(|index| sizes.idle_transition(index as u32)),
         }
     }
 
     // Changes the transition at an index.
     pub(crate) fn put(&mut self, index: usize, transition: Transition)
-        requires { index < 512 }
+        requires { index < max_transitions }
         ensures { self.new.list ≡ slice_set self.old.list index transition }
     {
         self.list[index] = transition;
-    }
-}
-
-// The transition with this index of a machine that changes nothing. The first one is repeated behind the last.
-fn idle_transition(symbols: u32, heads: u32, index: u32) -> Transition
-    requires { machine_fits symbols heads ≡ true }
-    ensures { result ≡ new_transition symbols heads index }
-{
-    let index = if index < symbols * heads { index } else { 0 };
-    Transition {
-        write: index % symbols,
-        step: Move::Stay,
-        next: index / symbols,
     }
 }

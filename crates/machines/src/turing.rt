@@ -1,55 +1,76 @@
 // A Turing machine as a rule: a cell has a symbol, and there may be a head on it.
-ghost use Rattle.std.specs.Prelude.{◌≡◌, ℕ, ◌+◌, ◌*◌, ◌<◌, ◌≤◌, true, false, IfSome, MatchResult};
+ghost use Rattle.std.specs.Prelude.{◌≡◌, true, false, MatchResult};
 ghost use Rattle.rings.specs.Refusals.{outcome};
 ghost use Rattle.rules.specs.declared.fault.RuleFault.TheVariants.{OutOfRange};
-ghost use Rattle.machines.specs.Turing.{StepsAsItsMachine, code_of, arriving, next_symbol, next_code, turing};
-ghost use Rattle.machines.specs.Cells.{acts};
+ghost use Rattle.machines.specs.Sizes.{machine_fits};
+ghost use Rattle.machines.specs.Turing.{StepsAsItsMachine, symbol_of, acts, written, moving, turing};
 ghost use Rattle.machines.specs.Drawings.{draw_fault, draw_answer, draw_buffer};
 ghost use Rattle.machines.specs.Worked.{WorkedRings};
-ghost use Rattle.machines.specs.Transitions.{turing_kind, listed, machine_fits, new_list, Idles, transition_of, enter_answer, enter_list, Enters};
+ghost use Rattle.machines.specs.Transitions.{turing_kind, listed, new_list, Idles, transition_of, enter_answer, enter_list, Enters};
 ghost use Rattle.machines.specs.Views.{machine_of, configuration_of, IsCode};
 ghost use Rattle.machines.specs.ViewsLemmas.{machine_lawful};
 
-use crate::transition::{MAX_TRANSITIONS, Transitions};
+use crate::sizes::Sizes;
+use crate::transition::Transitions;
 use crate::{Configuration, Move, Transition, Turing};
 use rings::first_stray;
 use rules::{Rule, RuleFault, Shape, check_window};
 
-const MAX_SYMBOLS: u32 = 64;
-
-const MAX_HEADS: u32 = 64;
-
 const WIDTH: usize = 3;
+
+// A cell of a ring: its symbol, and the transition that the head on it makes, if there is a head.
+#[derive(Clone, Copy)]
+struct Cell {
+    symbol: u32,
+    transition: Option<Transition>,
+}
+
+impl Cell {
+    // The next symbol of the cell.
+    fn next_symbol(self) -> u32
+        ensures { result ≡ written self.symbol self.transition }
+    {
+        self.transition
+            .map_or(self.symbol, |transition| transition.write)
+    }
+
+    // The next state of the head on the cell, if there is a head and it makes this move.
+    fn head_leaving(self, step: Move) -> Option<u32>
+        ensures { result ≡ moving step self.transition }
+    {
+        self.transition
+            .filter(|transition| transition.step == step)
+            .map(|transition| transition.next)
+    }
+}
 
 impl Turing {
     // A machine that writes what it reads, stays and keeps its state.
     pub fn new(symbols: u32, heads: u32) -> Result<Turing, RuleFault>
-        ensures answer { MatchResult result (λ t. (machine_fits symbols heads ≡ true) × (t.symbols ≡ symbols) × (t.heads ≡ heads) × (t.transitions.list ≡ new_list symbols heads)) (λ e. (machine_fits symbols heads ≡ false) × (e ≡ OutOfRange)) }
+        ensures answer { MatchResult result (λ t. (machine_fits symbols heads ≡ true) × (t.sizes.symbols ≡ symbols) × (t.sizes.heads ≡ heads) × (t.transitions.list ≡ new_list symbols heads)) (λ e. (machine_fits symbols heads ≡ false) × (e ≡ OutOfRange)) }
         ensures law { machine_fits symbols heads ≡ true → Idles (listed symbols heads (new_list symbols heads)) }
         ensures worked { WorkedRings }
     {
-        if !fits(symbols, heads) {
-            return Err(RuleFault::OutOfRange);
-        }
+        let sizes = Sizes::new(symbols, heads).ok_or(RuleFault::OutOfRange)?;
         Ok(Turing {
-            symbols,
-            heads,
-            transitions: Transitions::idle(symbols, heads),
+            sizes,
+            transitions: Transitions::idle(sizes),
         })
     }
 
     // Enters a transition at its index, state × symbols + symbol, by the three numbers that files hold: the symbol to write, the move
     // and the next state.
     pub fn enter(&mut self, index: usize, write: u32, step: u32, next: u32) -> Result<(), RuleFault>
-        ensures answer { result ≡ enter_answer self.old.symbols self.old.heads index (transition_of self.old.symbols self.old.heads write step next) }
-        ensures sizes { (self.new.symbols ≡ self.old.symbols) × (self.new.heads ≡ self.old.heads) }
-        ensures list { self.new.transitions.list ≡ enter_list self.old.symbols self.old.heads index (transition_of self.old.symbols self.old.heads write step next) self.old.transitions.list }
-        ensures law { Enters self.old.symbols self.old.heads index (transition_of self.old.symbols self.old.heads write step next) self.old.transitions.list }
+        ensures answer { let s = self.old.sizes in result ≡ enter_answer s.symbols s.heads index (transition_of s.symbols s.heads write step next) }
+        ensures sizes { self.new.sizes ≡ self.old.sizes }
+        ensures list { let s = self.old.sizes in self.new.transitions.list ≡ enter_list s.symbols s.heads index (transition_of s.symbols s.heads write step next) self.old.transitions.list }
+        ensures law { let s = self.old.sizes in Enters s.symbols s.heads index (transition_of s.symbols s.heads write step next) self.old.transitions.list }
     {
-        if index >= (self.symbols * self.heads) as usize {
+        if index >= self.sizes.transition_count() as usize {
             return Err(RuleFault::OutOfRange);
         }
         let transition = self
+            .sizes
             .transition_from(write, step, next)
             .ok_or(RuleFault::BadEntry(index))?;
         self.transitions.put(index, transition);
@@ -73,8 +94,8 @@ impl Turing {
             state,
         } = configuration;
         // the code of a cell without the head is its symbol
-        buffer[0..tape.len()].copy_from_slice(tape);
-        buffer[position] = code_with(self.symbols, tape[position], Some(state));
+        buffer[..tape.len()].copy_from_slice(tape);
+        buffer[position] = self.sizes.code_of(tape[position], Some(state));
         Ok(())
     }
 
@@ -90,10 +111,10 @@ impl Turing {
         if tape.is_empty() {
             return Err(RuleFault::EmptyRing);
         }
-        if position >= tape.len() || state >= self.heads {
+        if position >= tape.len() || state >= self.sizes.heads {
             return Err(RuleFault::OutOfRange);
         }
-        if let Some(index) = first_stray(tape, self.symbols) {
+        if let Some(index) = first_stray(tape, self.sizes.symbols) {
             return Err(RuleFault::BadEntry(index));
         }
         if room < tape.len() {
@@ -102,54 +123,17 @@ impl Turing {
         Ok(())
     }
 
-    // The transition of three numbers, if they are in their ranges.
-    fn transition_from(&self, write: u32, step: u32, next: u32) -> Option<Transition>
-        ensures { result ≡ transition_of self.now.symbols self.now.heads write step next }
-    {
-        let step = Move::try_from(step).ok()?;
-        (write < self.symbols && next < self.heads).then_some(Transition { write, step, next })
-    }
-
-    // The transition that the head on a cell with this code makes, if there is a head. The code of a head's cell is greater by the
-    // number of symbols than the index of the transition.
-    fn transition_at(&self, code: u32) -> Option<Transition>
+    // The cell with this code. The code of a head's cell is greater by the number of symbols than the index of the transition.
+    fn cell(&self, code: u32) -> Cell
         requires { IsCode self.now code }
-        ensures { result ≡ acts (machine_of self.now) code }
+        ensures symbol { result.symbol ≡ symbol_of self.now.sizes.symbols code }
+        ensures transition { result.transition ≡ acts (machine_of self.now) code }
     {
-        let index = code.checked_sub(self.symbols)?;
-        Some(self.transitions.list[index as usize])
-    }
-
-    // The next state of the head on a cell with this code, if there is a head and it makes this move.
-    fn head_leaving(&self, code: u32, step: Move) -> Option<u32>
-        requires { IsCode self.now code }
-        ensures { result ≡ arriving (machine_of self.now) step code }
-    {
-        self.transition_at(code)
-            .filter(|transition| transition.step == step)
-            .map(|transition| transition.next)
-    }
-
-    // The next symbol of a cell with this code.
-    fn symbol_after(&self, code: u32) -> u32
-        requires { IsCode self.now code }
-        ensures { result ≡ next_symbol (machine_of self.now) code }
-    {
-        self.transition_at(code)
-            .map_or(code % self.symbols, |transition| transition.write)
-    }
-
-    // The next code of a cell, from its own code and those of its neighbours.
-    fn next_code(&self, left: u32, own: u32, right: u32) -> u32
-        requires { (IsCode self.now left) × ((IsCode self.now own) × (IsCode self.now right)) }
-        ensures { result ≡ next_code (machine_of self.now) left own right }
-    {
-        let symbol = self.symbol_after(own);
-        let head = self
-            .head_leaving(left, Move::Right)
-            .or(self.head_leaving(own, Move::Stay))
-            .or(self.head_leaving(right, Move::Left));
-        code_with(self.symbols, symbol, head)
+        let index = code.checked_sub(self.sizes.symbols);
+        Cell {
+            symbol: code % self.sizes.symbols,
+            transition: index.map(|index| self.transitions.list[index as usize]),
+        }
     }
 }
 
@@ -164,7 +148,7 @@ impl Rule for Turing {
 
     fn shape(&self) -> Shape {
         Shape {
-            states: self.symbols * (self.heads + 1),
+            states: self.sizes.code_count(),
             lo: -1,
             hi: 1,
         }
@@ -175,31 +159,18 @@ impl Rule for Turing {
     }
 
     fn next(&self, window: &[u32]) -> Result<u32, RuleFault> {
-        check_window(window, self.shape().states, WIDTH)?;
-        Ok(self.next_code(window[0], window[1], window[2]))
+        check_window(window, self.sizes.code_count(), WIDTH)?;
+        let left = self.cell(window[0]);
+        let own = self.cell(window[1]);
+        let right = self.cell(window[2]);
+        let head = left
+            .head_leaving(Move::Right)
+            .or_else(|| own.head_leaving(Move::Stay))
+            .or_else(|| right.head_leaving(Move::Left));
+        Ok(self.sizes.code_of(own.next_symbol(), head))
     }
 
     fn previous(&self, _window: &[u32]) -> Result<u32, RuleFault> {
         Err(RuleFault::NoInverse)
     }
-}
-
-// The code of a symbol, with the head in this state if there is one.
-fn code_with(symbols: u32, symbol: u32, head: Option<u32>) -> u32
-    requires { (symbols ≤ 64) × ((symbol < 64) × (IfSome head (λ z. z < 64))) }
-    ensures { result ≡ code_of symbols symbol head }
-{
-    match head {
-        Some(state) => symbol + symbols * (state + 1),
-        None => symbol,
-    }
-}
-
-// Whether the sizes are those of a machine.
-fn fits(symbols: u32, heads: u32) -> bool
-    ensures { result ≡ machine_fits symbols heads }
-{
-    (1..=MAX_SYMBOLS).contains(&symbols)
-        && (1..=MAX_HEADS).contains(&heads)
-        && (symbols * heads) as usize <= MAX_TRANSITIONS
 }

@@ -9,5 +9,5 @@ pub invariant_of-self : goal.invariant_of-self
 invariant_of-self c =
     let t = c.args.self.now in
     let entered = c.in_ok-transition.transition in
-    let fits = transition_of-fits t.symbols t.heads c.args.write c.args.step c.args.next entered (search rules) in
-    record { fits = t.fits; full = ap length c.put.ensures ∙ length-set _ _ _ ∙ t.full; proper = rw c.put.ensures (All-set (λ x. transition_fits t.symbols t.heads x ≡ true) t.transitions.list c.args.index entered fits t.proper) }
+    let fits = transition_of-fits t.sizes.symbols t.sizes.heads c.args.write c.args.step c.args.next entered (search rules) in
+    record { full = ap length c.put.ensures ∙ length-set _ _ _ ∙ t.full; proper = rw c.put.ensures (All-set (λ x. transition_fits t.sizes.symbols t.sizes.heads x ≡ true) t.transitions.list c.args.index entered fits t.proper) }

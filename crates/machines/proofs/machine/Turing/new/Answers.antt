@@ -1,15 +1,15 @@
-use Rattle.std.proofs.Common.{length, sym, ap, ◌∙◌}
+use Rattle.std.proofs.Common.{length, ap, ◌∙◌}
 use Rattle.machines.specs.TransitionsLemmas.{length-new_list, new_list-fits, idles_new}
 use Rattle.machines.proofs.Worked.{worked_rings}
 use Rattle.machines.proofs.machine.Turing.new.Goals as goal
 
-pub returns-then-not-fits-clause-worked : goal.returns-then-not-fits-clause-worked
-returns-then-not-fits-clause-worked c = worked_rings
+pub returns-in_err-sizes-clause-worked : goal.returns-in_err-sizes-clause-worked
+returns-in_err-sizes-clause-worked c = worked_rings
 
 pub invariant_of-result : goal.invariant_of-result
 invariant_of-result c =
-    let fits = sym c.if-not-fits.ensures in
-    record { fits = fits; full = ap length c.idle.ensures ∙ length-new_list c.args.symbols c.args.heads; proper = rw c.idle.ensures (new_list-fits c.args.symbols c.args.heads fits) }
+    let s = c.in_ok-sizes.sizes in
+    record { full = ap length c.idle.ensures ∙ length-new_list s.symbols s.heads; proper = rw c.idle.ensures (new_list-fits s.symbols s.heads s.fits) }
 
 pub returns-clause-law : goal.returns-clause-law
 returns-clause-law c = idles_new c.args.symbols c.args.heads

@@ -5,4 +5,4 @@ use Rattle.machines.proofs.transition.Transitions.idle.Goals as goal
 
 pub returns : goal.returns
 unfolding new_list
-returns c = from_fn_map _ (new_transition c.args.symbols c.args.heads) _ 512 (λ i y q l r. search rules) c.from_fn.result blank c.from_fn.ensures.items
+returns c = from_fn_map _ (new_transition c.args.sizes.symbols c.args.sizes.heads) _ 512 (λ i y q l r. search rules) c.from_fn.result blank c.from_fn.ensures.items
