@@ -205,7 +205,7 @@ codes_set q xs i v l codes k h =
     let old = codes k inside in
     grind (arith, get_or-set_same, get_or-set_other, cases_eq k i)
 
-pub step_proper : (m : Machine) → ProperMachine m → (c : Configuration) → ProperConfiguration m c → ProperConfiguration m (step m c)
+step_proper : (m : Machine) → ProperMachine m → (c : Configuration) → ProperConfiguration m c → ProperConfiguration m (step m c)
 step_proper m p c q =
     let y = slice_index_or c.tape c.position 0 in
     let symbol : y < m.symbols = q.tape.codes c.position q.position in

@@ -12,7 +12,7 @@ use Rattle.machines.specs.declared.transition.Transition.{Transition}
 use Rattle.machines.specs.Turing.{Machine, ProperMachine, code_of, symbol_of, numbered_head, acting, acts}
 use Rattle.machines.specs.Machines.{symbol_of_code_of, head_of_code_of}
 use Rattle.machines.specs.Sizes.{max_symbols, max_heads, max_transitions, machine_fits}
-use Rattle.machines.specs.Transitions.{blank, listed, transition_fits, new_transition, new_list, Idles, transition_of}
+use Rattle.machines.specs.Transitions.{blank, listed, transition_fits, new_transition, new_list, Idles}
 
 -- what the sizes of a machine say
 pub record Sized (a h : ℕ) : Type 0 where
@@ -28,7 +28,7 @@ sized a h e = grind (arith, nat_tests)
 pub states_le : (a h : ℕ) → machine_fits a h ≡ true → a * (h + 1) ≤ 576
 states_le a h fits = let s = sized a h fits in omega (arith, s.few-symbols, s.few_transitions)
 
-pub index_lt : (a h z y : ℕ) → z < h → y < a → z * a + y < a * h
+index_lt : (a h z y : ℕ) → z < h → y < a → z * a + y < a * h
 index_lt a h z y k l = omega (arith, mul-add-lt z a y h k l, mul_comm a h)
 
 -- transitions that fit
@@ -73,11 +73,6 @@ idles_new a h fits z y k l =
     let remainder : (z * a + y) % a ≡ y = grind (arith, add-mul-mod_self_left, mod-eq_of_lt) in
     let quotient : (z * a + y) / a ≡ z = grind (arith, add-mul-div_left, div-eq_of_lt) in
     get_or-map-range_with_len (new_transition a h) 0 max_transitions (z * a + y) (z * a + y) blank (omega (arith, s.few_transitions)) (omega arith) ∙ grind (arith, nat_tests)
-
--- entering a transition
-
-pub transition_of-fits : (a h write step next : ℕ) (t : Transition) → Some t ≡ transition_of a h write step next → transition_fits a h t ≡ true
-transition_of-fits a h write step next t k = grind (arith, nat_tests)
 
 -- the head on a cell, whose code is greater by the number of symbols than the index of its transition
 

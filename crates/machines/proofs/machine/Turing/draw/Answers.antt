@@ -1,5 +1,4 @@
 use Rattle.std.proofs.Common.{length, rules}
-use Rattle.std.proofs.Math.Nat.{sub-zero}
 use Rattle.rings.proofs.Refusals.{accepted}
 use Rattle.machines.specs.Drawings.{draw_fault}
 use Rattle.machines.specs.Views.{machine_of, configuration_of}
@@ -23,7 +22,7 @@ returns-clause-buffer c =
     let m = machine_of c.args.self.now in
     let f = configuration_of c.args.configuration in
     let room = length c.args.buffer.now in
-    simp (c.copy_from_slice.ensures.after, c.code_of.ensures, sub-zero) (drawn m f c.args.buffer.now (accepted (draw_fault m f room) (search rules)))
+    simp (c.copy_from_slice.ensures.after, c.code_of.ensures) (drawn m f c.args.buffer.now (accepted (draw_fault m f room) (search rules)))
 
 pub returns-clause-law : goal.returns-clause-law
 returns-clause-law c = machine_steps c.args.self.now
