@@ -1,5 +1,5 @@
 -- Lemmas on the automata of Turing machines: they are lawful, and they step as their machines do.
-use Rattle.std.specs.Prelude.{◌≡◌, ℕ, zero, suc, ◌+◌, ◌-◌, ◌*◌, ◌/◌, ◌%◌, ◌^◌, ◌<◌, ◌≤◌, Bool, true, false, ◌&&◌, List, length, ℤ, pos, negsuc, ◌+ℤ◌, ◌*ℤ◌, neg_ℤ, IfSome, Some, None, Option, ◌==◌, nat_eq, slice_index, slice_index_or, slice_set}
+use Rattle.std.specs.Prelude.{◌≡◌, ℕ, zero, suc, ◌+◌, ◌-◌, ◌*◌, ◌/◌, ◌%◌, ◌<◌, ◌≤◌, Bool, true, false, ◌&&◌, List, length, ℤ, pos, negsuc, ◌+ℤ◌, ◌*ℤ◌, neg_ℤ, IfSome, Some, None, Option, ◌==◌, nat_eq, slice_index, slice_index_or, slice_set}
 use Rattle.std.proofs.Math.Path.{refl, sym}
 use Rattle.std.proofs.Common.{ap, ap₂, ◌∙◌, arith, mod-eq_of_lt, mod-lt, mul_comm}
 use Rattle.std.proofs.Math.Nat.{add-mul-mod_self_left, add-mul-div_left, div-eq_of_lt}
@@ -15,6 +15,7 @@ use Rattle.rings.specs.Line.{tabulate, power}
 use Rattle.rings.specs.Ring.{at, Codes}
 use Rattle.rings.specs.Local.{ring_map}
 use Rattle.rings.specs.Automaton.{Lawful}
+use Rattle.rings.specs.Limits.{max_states}
 use Rattle.rings.proofs.Integers.{floor_div_mod, floor_mod_lt, floor_mod_turns}
 use Rattle.rings.proofs.Line.{length-tabulate, slice_index-tabulate, is_tabulate}
 use Rattle.rings.proofs.Local.{length-ring_map, slice_index-ring_map}
@@ -87,7 +88,7 @@ module _ (m : Machine) (p : ProperMachine m) where
   next_code_lt : (left own right : ℕ) → left < (turing m).states → own < (turing m).states → right < (turing m).states → next_code m left own right < (turing m).states
   next_code_lt left own right f g h = code_of_lt m.symbols m.heads (next_symbol m own) (next_head m left own right) (next_symbol_lt own g) (fitting_next_head left own right f g h)
 
-  pub turing_lawful : m.symbols * (m.heads + 1) ≤ 2 ^ 24 → Lawful (turing m)
+  pub turing_lawful : m.symbols * (m.heads + 1) ≤ max_states → Lawful (turing m)
   turing_lawful few = record {
     bounded = record { few = few; forward = record { low = omega (arith, ints); high = omega (arith, ints); narrow = omega arith }; inverse = tt };
     sound = record {
