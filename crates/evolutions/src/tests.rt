@@ -1,6 +1,6 @@
 // A published evolution with an error in it is told.
-use crate::check::{check_beaver, check_rows, check_run};
-use crate::vectors::{Beaver, Rows, Run};
+use crate::check::Published;
+use crate::vectors::{Beaver, Halt, Rows, Run};
 use std::test::Fail;
 
 #[test]
@@ -10,9 +10,7 @@ fn a_wrong_row_is_told(rt: HostRuntime) -> Result<(), Fail> {
         sequence: "A110240",
         values: &[1, 7, 24, 111],
     };
-    let Some(difference) = check_rows(rt.alloc(), &rows)? else {
-        return Err(Fail::new("taken for right"));
-    };
+    let difference = rows.check(rt.alloc())?.ok_or("taken for right")?;
     assert_eq!(rt; difference.row, 2);
     assert!(rt; difference.expected.as_str() == "24");
     assert!(rt; difference.found.as_str() == "25");
@@ -27,9 +25,7 @@ fn a_wrong_ring_is_told(rt: HostRuntime) -> Result<(), Fail> {
         first: "0001",
         last: "0110",
     };
-    let Some(difference) = check_run(rt.alloc(), &run)? else {
-        return Err(Fail::new("taken for right"));
-    };
+    let difference = run.check(rt.alloc())?.ok_or("taken for right")?;
     assert_eq!(rt; difference.row, 2);
     assert!(rt; difference.expected.as_str() == "0110");
     assert!(rt; difference.found.as_str() == "0111");
@@ -38,10 +34,10 @@ fn a_wrong_ring_is_told(rt: HostRuntime) -> Result<(), Fail> {
 
 #[test]
 fn a_wrong_halt_is_told(rt: HostRuntime) -> Result<(), Fail> {
-    let beaver = Beaver { steps: 7, ones: 4 };
-    let Some(difference) = check_beaver(rt.alloc(), &beaver)? else {
-        return Err(Fail::new("taken for right"));
+    let beaver = Beaver {
+        halt: Halt { steps: 7, ones: 4 },
     };
+    let difference = beaver.check(rt.alloc())?.ok_or("taken for right")?;
     assert!(rt; difference.expected.as_str() == "4 ones after 7 steps");
     assert!(rt; difference.found.as_str() == "4 ones after 6 steps");
     Ok(())

@@ -1,5 +1,6 @@
 // Evolutions that others published, from the On-Line Encyclopedia of Integer Sequences (OEIS), from Golly 3.3,
 // and from the literature on busy beavers.
+use std::fmt;
 
 // The rows of an elementary automaton from a single 1 on. Row k is the binary number of the 2k + 1 cells around the first one.
 #[derive(Clone, Copy)]
@@ -8,6 +9,14 @@ pub(crate) struct Rows {
     // The entry of the encyclopedia.
     pub(crate) sequence: &'static str,
     pub(crate) values: &'static [u64],
+}
+
+impl fmt::Display for Rows {
+    fn fmt<W: fmt::Write>(&self, f: &mut fmt::Formatter<W>) -> fmt::Result {
+        let Rows { rule, sequence, .. } = self;
+        let count = self.values.len();
+        write!(f, "rule {rule:3}, {count:2} rows from a single cell, OEIS {sequence}")
+    }
 }
 
 // A ring, and the ring that an elementary automaton reaches from it. Golly computed it with bgolly,
@@ -20,15 +29,44 @@ pub(crate) struct Run {
     pub(crate) last: &'static str,
 }
 
-// When the busy beaver of two states and two symbols halts, and how many ones it leaves.
-#[derive(Clone, Copy)]
-pub(crate) struct Beaver {
+impl fmt::Display for Run {
+    fn fmt<W: fmt::Write>(&self, f: &mut fmt::Formatter<W>) -> fmt::Result {
+        let Run { rule, steps, .. } = self;
+        let cells = self.first.len();
+        write!(f, "rule {rule:3}, {steps:2} steps of a ring of {cells:2} cells, Golly 3.3")
+    }
+}
+
+// After how many steps a machine halts, and how many ones it leaves.
+#[derive(Clone, Copy, PartialEq, Eq)]
+pub(crate) struct Halt {
     pub(crate) steps: usize,
     pub(crate) ones: usize,
 }
 
+impl fmt::Display for Halt {
+    fn fmt<W: fmt::Write>(&self, f: &mut fmt::Formatter<W>) -> fmt::Result {
+        let Halt { steps, ones } = self;
+        write!(f, "{ones} ones after {steps} steps")
+    }
+}
+
+// The halt of the busy beaver of two states and two symbols.
+#[derive(Clone, Copy)]
+pub(crate) struct Beaver {
+    pub(crate) halt: Halt,
+}
+
+impl fmt::Display for Beaver {
+    fn fmt<W: fmt::Write>(&self, f: &mut fmt::Formatter<W>) -> fmt::Result {
+        f.write_str("busy beaver of 2 states on a circular tape, Rado and Lin")
+    }
+}
+
 // T. Rado, On non-computable functions, 1962; S. Lin and T. Rado, 1965.
-pub(crate) const BEAVER: Beaver = Beaver { steps: 6, ones: 4 };
+pub(crate) const BEAVER: Beaver = Beaver {
+    halt: Halt { steps: 6, ones: 4 },
+};
 
 pub(crate) const ROWS: [Rows; 5] = [
     Rows {
