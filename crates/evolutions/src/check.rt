@@ -34,6 +34,7 @@ impl fmt::Display for Difference {
 }
 
 // A ring, written as its codes with nothing between.
+#[derive(Drop)]
 struct Digits<'a>(&'a [u32]);
 
 impl<'a> fmt::Display for Digits<'a> {

@@ -65,32 +65,18 @@ fn an_action_has_bounds(rt: HostRuntime) -> Result<(), Fail> {
     assert_eq!(rt; refusal(2, 17), Some(9));
     assert_eq!(rt; refusal(3, 17), Some(9));
     assert_eq!(rt; refusal(3, -17), Some(9));
-    let Ok(pack) = Action::new(1, 16) else {
-        return Err(Fail::new("no pack"));
-    };
-    assert_eq!(rt; pack.number(), 1);
-    let Ok(shift) = Action::new(3, -16) else {
-        return Err(Fail::new("no shift"));
-    };
-    assert_eq!(rt; shift.number(), 3);
+    assert_eq!(rt; Action::new(1, 16)?.number(), 1);
+    assert_eq!(rt; Action::new(3, -16)?.number(), 3);
     Ok(())
 }
 
 #[test]
 fn four_floors_multiply_their_numbers(rt: HostRuntime) -> Result<(), Fail> {
     let ground = Ground::over(Table::elementary(110));
-    let Ok(first) = Floor::build(ground, Action::Pack(2), 1) else {
-        return Err(Fail::new("no pack"));
-    };
-    let Ok(second) = Floor::build(first, Action::Mirror, 2) else {
-        return Err(Fail::new("no mirror"));
-    };
-    let Ok(third) = Floor::build(second, Action::Shift(3), 3) else {
-        return Err(Fail::new("no shift"));
-    };
-    let Ok(fourth) = Floor::build(third, Action::Iterate(4), 4) else {
-        return Err(Fail::new("no iteration"));
-    };
+    let first = Floor::build(ground, Action::Pack(2), 1)?;
+    let second = Floor::build(first, Action::Mirror, 2)?;
+    let third = Floor::build(second, Action::Shift(3), 3)?;
+    let fourth = Floor::build(third, Action::Iterate(4), 4)?;
     let numbers = fourth.numbers();
     assert_eq!(rt; numbers.states, 4);
     assert_eq!(rt; numbers.lo, 8);
@@ -99,7 +85,7 @@ fn four_floors_multiply_their_numbers(rt: HostRuntime) -> Result<(), Fail> {
     assert_eq!(rt; numbers.block, 2);
     assert_eq!(rt; numbers.steps, 4);
     assert_eq!(rt; numbers.drift, -24);
-    assert_eq!(rt; numbers.mirrored, true);
+    assert!(rt; numbers.mirrored);
     assert_eq!(rt; numbers.bottom, 2);
     Ok(())
 }
@@ -107,12 +93,10 @@ fn four_floors_multiply_their_numbers(rt: HostRuntime) -> Result<(), Fail> {
 #[test]
 fn a_floor_that_does_not_fit_brings_the_tower_back(rt: HostRuntime) -> Result<(), Fail> {
     let ground = Ground::over(Table::elementary(110));
-    let Ok(first) = Floor::build(ground, Action::Pack(16), 1) else {
-        return Err(Fail::new("no pack"));
-    };
-    let Err(refused) = Floor::build(first, Action::Pack(16), 2) else {
-        return Err(Fail::new("built"));
-    };
+    let first = Floor::build(ground, Action::Pack(16), 1)?;
+    let refused = Floor::build(first, Action::Pack(16), 2)
+        .err()
+        .ok_or("built")?;
     assert_eq!(rt; refused.fault.number(), 11);
     assert_eq!(rt; refused.fault.place(), 2);
     let numbers = refused.given.numbers();
@@ -129,7 +113,7 @@ fn a_floor_that_does_not_fit_brings_the_tower_back(rt: HostRuntime) -> Result<()
     assert_eq!(rt; same.block, 16);
     assert_eq!(rt; same.steps, 1);
     assert_eq!(rt; same.drift, 0);
-    assert_eq!(rt; same.mirrored, false);
+    assert!(rt; !same.mirrored);
     assert_eq!(rt; same.bottom, 2);
     Ok(())
 }
@@ -141,14 +125,8 @@ fn a_bottom_cell_has_a_place(rt: HostRuntime) -> Result<(), Fail> {
     assert_eq!(rt; place_refusal(&packed, 4, 0), Some(3));
     assert_eq!(rt; place_refusal(&packed, 4, 4), Some(3));
     assert_eq!(rt; place_refusal(&packed, 6, 6), Some(9));
-    let Ok(place) = packed.place(6, 5) else {
-        return Err(Fail::new("no place"));
-    };
-    assert_eq!(rt; place, Place { cell: 1, digit: 2 });
+    assert_eq!(rt; packed.place(6, 5)?, Place { cell: 1, digit: 2 });
     let mirrored = Floor::over(packed, Action::Mirror);
-    let Ok(place) = mirrored.place(6, 5) else {
-        return Err(Fail::new("no place in the mirror"));
-    };
-    assert_eq!(rt; place, Place { cell: 0, digit: 2 });
+    assert_eq!(rt; mirrored.place(6, 5)?, Place { cell: 0, digit: 2 });
     Ok(())
 }

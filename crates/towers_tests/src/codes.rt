@@ -1,6 +1,7 @@
 // Rings encoded, stepped and decoded.
 use combinators::Lift;
 use floors::{Action, Floor};
+use orbits::evolve;
 use rings::Direction;
 use rules::{Rule, RuleFault, Table, map_ring};
 use std::test::Fail;
@@ -8,21 +9,16 @@ use towers::{Ground, Tower, TowerFault, decode, encode};
 
 const RING: [u32; 10] = [1, 0, 3, 0, 0, 2, 1, 0, 0, 0];
 
-// Four floors over rule 90 lifted.
-fn four_floors() -> Floor<Floor<Floor<Floor<Ground<Lift<Table>>>>>> {
-    let ground = Ground::over(Lift::over(Table::elementary(90)));
-    let mirrored = Floor::over(Floor::over(ground, Action::Pack(2)), Action::Mirror);
-    Floor::over(Floor::over(mirrored, Action::Shift(3)), Action::Iterate(2))
+// Rule 90 lifted.
+fn lifted_90() -> Lift<Table> {
+    Lift::over(Table::elementary(90))
 }
 
-// The ring after two steps of rule 90 lifted.
-fn step_twice(direction: Direction) -> Result<[u32; 10], RuleFault> {
-    let rule = Lift::over(Table::elementary(90));
-    let mut once = [0; 10];
-    map_ring(&rule, direction, &RING, &mut once)?;
-    let mut twice = [0; 10];
-    map_ring(&rule, direction, &once, &mut twice)?;
-    Ok(twice)
+// Four floors over rule 90 lifted.
+fn four_floors() -> Floor<Floor<Floor<Floor<Ground<Lift<Table>>>>>> {
+    let ground = Ground::over(lifted_90());
+    let mirrored = Floor::over(Floor::over(ground, Action::Pack(2)), Action::Mirror);
+    Floor::over(Floor::over(mirrored, Action::Shift(3)), Action::Iterate(2))
 }
 
 // The number and the place of a refusal, if there is one.
@@ -33,9 +29,7 @@ fn refusal(answer: Result<(), TowerFault>) -> Option<(u16, usize)> {
 #[test]
 fn rule_110_reduced(rt: HostRuntime) -> Result<(), Fail> {
     let ground = Ground::over(Table::elementary(110));
-    let Ok(floor) = Floor::build(ground, Action::Reduce, 1) else {
-        return Err(Fail::new("not reduced"));
-    };
+    let floor = Floor::build(ground, Action::Reduce, 1)?;
     let numbers = floor.numbers();
     assert_eq!(rt; numbers.block, 2);
     assert_eq!(rt; numbers.states, 4);
@@ -90,7 +84,7 @@ fn a_refused_decoding_leaves_the_buffer(rt: HostRuntime) -> Result<(), Fail> {
 
 #[test]
 fn a_top_cell_steps_by_its_window(rt: HostRuntime) {
-    let ground = Ground::over(Lift::over(Table::elementary(90)));
+    let ground = Ground::over(lifted_90());
     let floor = Floor::over(ground, Action::Pack(2));
     assert_eq!(rt; floor.next(&[0, 1, 0]), Ok(6));
     assert_eq!(rt; floor.previous(&[0, 1, 0]), Ok(2));
@@ -109,10 +103,12 @@ fn a_step_of_four_floors_is_two_steps_and_a_turn(rt: HostRuntime) -> Result<(), 
     assert_eq!(rt; code, [0, 1, 8, 3, 1]);
     let mut top = [0; 5];
     map_ring(&tower, Direction::Forward, &code, &mut top)?;
-    let [a, b, c, d, e, f, g, h, i, j] = step_twice(Direction::Forward)?;
+    let mut reached = evolve(rt.alloc(), &lifted_90(), Direction::Forward, &RING, 2)?;
+    assert_eq!(rt; reached.len(), 10);
     // turned by -12 cells, which are 8 of 10
+    reached.rotate_left(8);
     let mut bottom = [0; 5];
-    encode(&tower, &[i, j, a, b, c, d, e, f, g, h], &mut bottom)?;
+    encode(&tower, &reached, &mut bottom)?;
     assert_eq!(rt; top, bottom);
     assert!(rt; top != code);
     Ok(())
@@ -123,10 +119,12 @@ fn a_step_back_of_four_floors_is_two_steps_back_and_a_turn(rt: HostRuntime) -> R
     let tower = four_floors();
     let mut top = [0; 5];
     map_ring(&tower, Direction::Backward, &[0, 1, 8, 3, 1], &mut top)?;
-    let [a, b, c, d, e, f, g, h, i, j] = step_twice(Direction::Backward)?;
+    let mut reached = evolve(rt.alloc(), &lifted_90(), Direction::Backward, &RING, 2)?;
+    assert_eq!(rt; reached.len(), 10);
     // turned by 12 cells, which are 2 of 10
+    reached.rotate_left(2);
     let mut bottom = [0; 5];
-    encode(&tower, &[c, d, e, f, g, h, i, j, a, b], &mut bottom)?;
+    encode(&tower, &reached, &mut bottom)?;
     assert_eq!(rt; top, bottom);
     let mut again = [0; 5];
     map_ring(&tower, Direction::Forward, &top, &mut again)?;

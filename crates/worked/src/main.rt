@@ -5,39 +5,34 @@ mod climb;
 mod examples;
 mod show;
 
-use anyhow::anyhow;
+use anyhow::ensure;
 use climb::climb;
+use comparisons::Totals;
 use examples::{four_floors, reduced_110, worked_rings};
 use rules::Table;
-use show::Totals;
+use show::Report;
 
 fn run(rt: &HostRuntime) -> anyhow::Result<()> {
-    let mut totals = Totals {
-        same: 0,
-        different: 0,
-    };
+    let mut report = Report::new(rt);
     let rule = Table::elementary(110);
     println!(rt;
         "A step of a tower's top does T steps of the bottom rule, on an encoded ring, and turns the ring by S cells."
     )?;
     println!(rt; "Rule 110 reduced")?;
-    climb(rt, &mut totals, reduced_110(), &rule, &[0, 0, 0, 1], 1)?;
+    climb(&mut report, reduced_110(), &rule, &[0, 0, 0, 1], 1)?;
     println!(rt; "Rule 110 with four floors: pack 2, mirror, shift 3, iterate 4")?;
     climb(
-        rt,
-        &mut totals,
+        &mut report,
         four_floors(),
         &rule,
         &[0, 0, 0, 1, 0, 0, 1, 1, 0, 1],
         3,
     )?;
     println!(rt; "Worked rings")?;
-    worked_rings(rt, &mut totals)?;
-    let Totals { same, different } = totals;
+    worked_rings(&mut report)?;
+    let Totals { same, different } = report.totals;
     println!(rt; "{same} comparisons the same, {different} different")?;
-    if different > 0 {
-        return Err(anyhow!("a ring is not what it should be"));
-    }
+    ensure!(report.totals.all_same(), "a ring is not what it should be");
     Ok(())
 }
 
