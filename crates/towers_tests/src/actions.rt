@@ -2,7 +2,7 @@
 use floors::{Action, Floor};
 use rules::Table;
 use std::test::Fail;
-use towers::{Ground, Place, Tower};
+use towers::{Ground, Numbers, Place, Tower};
 
 // The number of the fault with which an action is refused, if it is.
 fn refusal(number: u16, argument: i16) -> Option<u16> {
@@ -77,16 +77,18 @@ fn four_floors_multiply_their_numbers(rt: HostRuntime) -> Result<(), Fail> {
     let second = Floor::build(first, Action::Mirror, 2)?;
     let third = Floor::build(second, Action::Shift(3), 3)?;
     let fourth = Floor::build(third, Action::Iterate(4), 4)?;
-    let numbers = fourth.numbers();
-    assert_eq!(rt; numbers.states, 4);
-    assert_eq!(rt; numbers.lo, 8);
-    assert_eq!(rt; numbers.hi, 16);
-    assert_eq!(rt; numbers.inverse, None);
-    assert_eq!(rt; numbers.block, 2);
-    assert_eq!(rt; numbers.steps, 4);
-    assert_eq!(rt; numbers.drift, -24);
-    assert!(rt; numbers.mirrored);
-    assert_eq!(rt; numbers.bottom, 2);
+    let numbers = Numbers {
+        states: 4,
+        lo: 8,
+        hi: 16,
+        inverse: None,
+        block: 2,
+        steps: 4,
+        drift: -24,
+        mirrored: true,
+        bottom: 2,
+    };
+    assert_eq!(rt; fourth.numbers(), numbers);
     Ok(())
 }
 
@@ -99,22 +101,21 @@ fn a_floor_that_does_not_fit_brings_the_tower_back(rt: HostRuntime) -> Result<()
         .ok_or("built")?;
     assert_eq!(rt; refused.fault.number(), 11);
     assert_eq!(rt; refused.fault.place(), 2);
-    let numbers = refused.given.numbers();
-    assert_eq!(rt; numbers.states, 65_536);
-    assert_eq!(rt; numbers.lo, -1);
-    assert_eq!(rt; numbers.hi, 1);
-    assert_eq!(rt; numbers.block, 16);
+    let numbers = Numbers {
+        states: 65_536,
+        lo: -1,
+        hi: 1,
+        inverse: None,
+        block: 16,
+        steps: 1,
+        drift: 0,
+        mirrored: false,
+        bottom: 2,
+    };
+    assert_eq!(rt; refused.given.numbers(), numbers);
     // a floor that is put over it all the same does nothing
-    let same = Floor::over(refused.given, Action::Pack(16)).numbers();
-    assert_eq!(rt; same.states, 65_536);
-    assert_eq!(rt; same.lo, -1);
-    assert_eq!(rt; same.hi, 1);
-    assert_eq!(rt; same.inverse, None);
-    assert_eq!(rt; same.block, 16);
-    assert_eq!(rt; same.steps, 1);
-    assert_eq!(rt; same.drift, 0);
-    assert!(rt; !same.mirrored);
-    assert_eq!(rt; same.bottom, 2);
+    let same = Floor::over(refused.given, Action::Pack(16));
+    assert_eq!(rt; same.numbers(), numbers);
     Ok(())
 }
 

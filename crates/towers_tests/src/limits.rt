@@ -135,7 +135,24 @@ fn steps_are_at_most_65_536(rt: HostRuntime) -> Result<(), Fail> {
     Ok(())
 }
 
-// The largest drift needs the largest block, steps and end: it is never passed alone.
+// Two floors more over a tower bring it to the largest drift.
+fn check_two_floors_more<T: Tower + Drop>(rt: &impl Abort, below: T) {
+    let tower = pack_and_iterate(below);
+    let numbers = tower.numbers();
+    assert_eq!(rt; numbers.drift, 16_777_216);
+    assert_eq!(rt; numbers.block, 65_536);
+    assert_eq!(rt; numbers.steps, 65_536);
+    assert_eq!(rt; numbers.hi, 128);
+    assert_eq!(rt; refusal(tower, Action::Shift(1)), UNFIT);
+}
+
+// Six floors more over a tower bring it to the largest drift.
+fn check_six_floors_more<T: Tower + Drop>(rt: &impl Abort, below: T) {
+    check_two_floors_more(rt, pack_and_iterate(pack_and_iterate(below)));
+}
+
+// The largest drift needs the largest block, steps and end: it is never passed alone. Its ten floors are put up by three functions,
+// for the compiler's work doubles and more with each floor that one function puts up.
 #[test]
 fn a_drift_is_at_most_16_777_216(rt: HostRuntime) -> Result<(), Fail> {
     let packed = Floor::over(
@@ -143,13 +160,7 @@ fn a_drift_is_at_most_16_777_216(rt: HostRuntime) -> Result<(), Fail> {
         Action::Pack(16),
     );
     let moved = Floor::over(Floor::over(packed, Action::Shift(8)), Action::Iterate(16));
-    let tower = pack_and_iterate(pack_and_iterate(pack_and_iterate(moved)));
-    let numbers = tower.numbers();
-    assert_eq!(rt; numbers.drift, 16_777_216);
-    assert_eq!(rt; numbers.block, 65_536);
-    assert_eq!(rt; numbers.steps, 65_536);
-    assert_eq!(rt; numbers.hi, 128);
-    assert_eq!(rt; refusal(tower, Action::Shift(1)), UNFIT);
+    check_six_floors_more(&rt, moved);
     Ok(())
 }
 
