@@ -37,7 +37,7 @@ fn a_lifted_rule_runs_forward_and_back(rt: HostRuntime) -> Result<(), Fail> {
     let lift = Lift::over(Table::elementary(30));
     let mut ring = vec![in rt.alloc(); 0; 50]?;
     for (i, cell) in ring.iter_mut().enumerate() {
-        *cell = u32::from(i % 7 == 3);
+        *cell = if i % 7 == 3 { 1 } else { 0 };
     }
     let there = evolve(rt.alloc(), &lift, Direction::Forward, &ring, 100)?;
     assert!(rt; there.as_slice() != ring.as_slice());
@@ -48,9 +48,9 @@ fn a_lifted_rule_runs_forward_and_back(rt: HostRuntime) -> Result<(), Fail> {
 
 #[test]
 fn a_rule_that_is_too_wide_comes_back(rt: HostRuntime) -> Result<(), Fail> {
-    let refused = Lift::build(Table::new(1, 1, 64, &[0])?)
-        .err()
-        .ok_or("lifted")?;
+    let Err(refused) = Lift::build(Table::new(1, 1, 64, &[0])?) else {
+        return Err(Fail::new("lifted"));
+    };
     assert_eq!(rt; refused.fault.number(), 11);
     assert_eq!(rt; refused.fault.place(), 0);
     let shape = Shape {

@@ -6,7 +6,7 @@ use std::test::Fail;
 fn refusal(states: u32, lo: i32, hi: i32, count: usize) -> Option<RuleFault> {
     let zeros = [0; 2048];
     let count = count.min(2048);
-    Table::new(states, lo, hi, &zeros[..count]).err()
+    Table::new(states, lo, hi, &zeros[0..count]).err()
 }
 
 #[test]
@@ -41,11 +41,13 @@ fn the_number_of_entries_has_bounds(rt: HostRuntime) {
 
 #[test]
 fn the_first_bad_entry_is_told(rt: HostRuntime) -> Result<(), Fail> {
-    let fault = Table::new(3, 0, 0, &[2, 3, 4]).err().ok_or("built")?;
+    let Err(fault) = Table::new(3, 0, 0, &[2, 3, 4]) else {
+        return Err(Fail::new("built"));
+    };
     assert_eq!(rt; fault.number(), 10);
     assert_eq!(rt; fault.place(), 1);
-    assert!(rt; Table::new(3, 0, 0, &[2, 2, 4]).is_err());
-    assert!(rt; Table::new(3, 0, 0, &[2, 0, 1]).is_ok());
+    assert_eq!(rt; Table::new(3, 0, 0, &[2, 2, 4]).is_ok(), false);
+    assert_eq!(rt; Table::new(3, 0, 0, &[2, 0, 1]).is_ok(), true);
     Ok(())
 }
 

@@ -6,6 +6,7 @@ use rules::{RuleFault, Table, map_ring};
 use std::env;
 
 // The ring in `even` after so many steps, with `odd` between: how many of its cells are 1.
+// (By `orbits::evolve`, which was tried, a step took 9 in 100 longer.)
 fn ones_after(
     rule: &Table,
     even: &mut [u32],
