@@ -15,7 +15,10 @@ impl fmt::Display for Rows {
     fn fmt<W: fmt::Write>(&self, f: &mut fmt::Formatter<W>) -> fmt::Result {
         let Rows { rule, sequence, .. } = self;
         let count = self.values.len();
-        write!(f, "rule {rule:3}, {count:2} rows from a single cell, OEIS {sequence}")
+        write!(
+            f,
+            "rule {rule:3}, {count:2} rows from a single cell, OEIS {sequence}"
+        )
     }
 }
 
@@ -33,7 +36,10 @@ impl fmt::Display for Run {
     fn fmt<W: fmt::Write>(&self, f: &mut fmt::Formatter<W>) -> fmt::Result {
         let Run { rule, steps, .. } = self;
         let cells = self.first.len();
-        write!(f, "rule {rule:3}, {steps:2} steps of a ring of {cells:2} cells, Golly 3.3")
+        write!(
+            f,
+            "rule {rule:3}, {steps:2} steps of a ring of {cells:2} cells, Golly 3.3"
+        )
     }
 }
 

@@ -55,11 +55,7 @@ fn step_110(report: &mut Report<'_>) -> anyhow::Result<()> {
     let once = evolve(heap, &rule, Direction::Forward, &ring, 1)?;
     report.compare_rings("rule 110, 0 0 0 1 after a step", &once, &[0, 0, 1, 1])?;
     let twice = evolve(heap, &rule, Direction::Forward, &ring, 2)?;
-    report.compare_rings(
-        "rule 110, 0 0 0 1 after two steps",
-        &twice,
-        &[0, 1, 1, 1],
-    )?;
+    report.compare_rings("rule 110, 0 0 0 1 after two steps", &twice, &[0, 1, 1, 1])?;
     let cell = evolve(heap, &rule, Direction::Forward, &[1], 1)?;
     report.compare_rings("rule 110, the one cell 1 after a step", &cell, &[0])
 }
@@ -117,7 +113,11 @@ fn pile_floors(report: &mut Report<'_>) -> anyhow::Result<()> {
         mirrored,
         ..
     } = four_floors().numbers();
-    report.compare_rings("four floors over rule 110, M and T", &[block, steps], &[2, 4])?;
+    report.compare_rings(
+        "four floors over rule 110, M and T",
+        &[block, steps],
+        &[2, 4],
+    )?;
     report.compare(
         "four floors over rule 110, S and v",
         Turn { drift, mirrored },

@@ -39,7 +39,10 @@ impl fmt::Display for NumberLines {
         writeln!(f, "  cells that a top step reads (lo to hi): {lo} to {hi}")?;
         writeln!(f, "  bottom cells in a top cell (M): {block}")?;
         writeln!(f, "  bottom steps in a top step (T): {steps}")?;
-        writeln!(f, "  bottom cells that a top step turns the ring by (S): {drift}")?;
+        writeln!(
+            f,
+            "  bottom cells that a top step turns the ring by (S): {drift}"
+        )?;
         writeln!(f, "  the top ring runs the other way round (v): {mirrored}")
     }
 }
