@@ -24,7 +24,7 @@ use Rattle.towers.specs.Numbers.{numbers_of, Standing}
 use Rattle.towers.specs.Standing.{top_lawful}
 use Rattle.floors.specs.Actions.{act_on, shift_ends, act_numbers, reduced_block, in_range, fits, reduces, within_limits, floor_or}
 use Rattle.floors.specs.Acting.{acted}
-use Rattle.floors.specs.Asking.{HasWidth, Packing, interval, packed_numbers}
+use Rattle.floors.specs.Asking.{HasWidth, Packing, interval, packed_numbers, block_of}
 use Rattle.floors.specs.ActingLemmas.{ends_mapped, acted_numbers, standing_acted}
 use Rattle.floors.proofs.Asking.{reads}
 use Rattle.floors.proofs.Places.{outcome_is}
@@ -294,9 +294,6 @@ module _ {a : Automaton} {t : Tower} {act : Action} {x y : Numbers} {d : Directi
 
     -- packing
     module _ (is : act ≡ Pack m) where
-      pub pack_range : (1 ≤ m) × (m ≤ 16)
-      pack_range = let p = and_parts _ _ (and_parts _ _ (subst (λ b. (in_range b && fits b (numbers_of t)) ≡ true) is (fit w.floor d))).0 in (leb-true _ _ p.0, leb-true _ _ p.1)
-
       pack_above : top_of d act t ≡ packed
       pack_above =
           above_as (Pack m) is ∙ ap (λ z. option_map (pack_local z.states m) (toward d a)) (sym w.floor.same) ∙
@@ -305,23 +302,10 @@ module _ {a : Automaton} {t : Tower} {act : Action} {x y : Numbers} {d : Directi
       pack_states : (act_on act t).top.states ≡ x.states ^ m
       pack_states = ap (λ b. (act_on b t).top.states) is ∙ ap (λ z. z.states ^ m) (sym w.floor.same)
 
-      pub pack_asks : Packing x.states m f.0 (span f.0 f.1) (length ws)
-      pack_asks = asks pack_range.0 pack_above pack_states
-
-      pub answers_pack : (v : ℕ) → v ≡ pack_value x.states m (value_of (toward d a)) (floor_mod f.0 m) (span f.0 f.1) ws → Ok v ≡ top-answer d ws (floor_or act t)
-      answers_pack = answers_packed pack_range.0 pack_above pack_states
-
     -- reduction
     module _ (is : act ≡ Reduce) (block : m ≡ reduced_block x) where
       count : m ≡ reduced_block (numbers_of t)
       count = block ∙ ap reduced_block w.floor.same
-
-      pub reduce_range : (1 ≤ m) × (m ≤ 16)
-      reduce_range =
-          let within = within_limits (act_numbers Reduce (numbers_of t)) in
-          let p = and_parts (reduces Reduce (numbers_of t)) within (and_parts (in_range Reduce) (fits Reduce (numbers_of t)) (subst (λ b. (in_range b && fits b (numbers_of t)) ≡ true) is (fit w.floor d))).1 in
-          let few : reduced_block (numbers_of t) ≤ 16 = leb-true _ _ (and_parts _ _ p.0).0 in
-          (omega (arith, count), omega (arith, count))
 
       reduce_above : top_of d act t ≡ packed
       reduce_above =
@@ -332,8 +316,19 @@ module _ {a : Automaton} {t : Tower} {act : Action} {x y : Numbers} {d : Directi
       reduce_states : (act_on act t).top.states ≡ x.states ^ m
       reduce_states = ap (λ b. (act_on b t).top.states) is ∙ ap₂ (λ (q n : ℕ). q ^ n) (ap (λ z. z.states) (sym w.floor.same)) (sym count)
 
-      pub reduce_asks : Packing x.states m f.0 (span f.0 f.1) (length ws)
-      reduce_asks = asks reduce_range.0 reduce_above reduce_states
+    -- either, with the block of the action
+    module _ (some : 1 ≤ m) (block : m ≡ block_of act x) where
+      as_pack : (n : ℕ) → act ≡ Pack n → act ≡ Pack m
+      as_pack n is = is ∙ ap Pack (sym (block ∙ ap (λ b. block_of b x) is))
 
-      pub answers_reduce : (v : ℕ) → v ≡ pack_value x.states m (value_of (toward d a)) (floor_mod f.0 m) (span f.0 f.1) ws → Ok v ≡ top-answer d ws (floor_or act t)
-      answers_reduce = answers_packed reduce_range.0 reduce_above reduce_states
+      as_reduce : act ≡ Reduce → m ≡ reduced_block x
+      as_reduce is = block ∙ ap (λ b. block_of b x) is
+
+      pub block_asks : ((n : ℕ) × (act ≡ Pack n)) ⊎ (act ≡ Reduce) → Packing x.states m f.0 (span f.0 f.1) (length ws)
+      block_asks (inl (n, is)) = asks some (pack_above (as_pack n is)) (pack_states (as_pack n is))
+      block_asks (inr is) = asks some (reduce_above is (as_reduce is)) (reduce_states is (as_reduce is))
+
+      pub answers_block : ((n : ℕ) × (act ≡ Pack n)) ⊎ (act ≡ Reduce) → (v : ℕ) → v ≡ pack_value x.states m (value_of (toward d a)) (floor_mod f.0 m) (span f.0 f.1) ws
+          → Ok v ≡ top-answer d ws (floor_or act t)
+      answers_block (inl (n, is)) = answers_packed some (pack_above (as_pack n is)) (pack_states (as_pack n is))
+      answers_block (inr is) = answers_packed some (reduce_above is (as_reduce is)) (reduce_states is (as_reduce is))

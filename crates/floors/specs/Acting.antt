@@ -1,22 +1,24 @@
 -- The numbers on which an action acts, and what it answers.
-use Rattle.std.specs.Prelude.{ℕ, ◌≤◌, cond, ◌&&◌, ℤ, pos, negsuc, ◌≤ℤ◌, IfSome, Some, None, Option, Result, unsigned_abs}
+use Rattle.std.specs.Prelude.{ℕ, ◌≤◌, cond, ◌&&◌, ℤ, ◌≤ℤ◌, IfSome, Some, None, Option, Result, unsigned_abs}
 use Rattle.std.specs.Option.{ok_or}
+use Rattle.rings.specs.Limits.{max_states, min_end, max_end, max_width}
 use Rattle.rings.specs.Local.{span}
 use Rattle.rules.specs.declared.fault.RuleFault.TheVariants.{OutOfRange}
 use Rattle.floors.specs.declared.action.Action.{Action}
 use Rattle.towers.specs.declared.fault.TowerFault.{TowerFault}
 use Rattle.towers.specs.declared.fault.TowerFault.TheVariants.{Rule}
 use Rattle.towers.specs.declared.numbers.Numbers.{Numbers}
+use Rattle.floors.specs.Limits.{max_block, max_steps, max_drift}
 use Rattle.floors.specs.Actions.{act_numbers, in_range, fits, within_limits, numbered_action}
 
 -- the numbers of a tower
 
 -- The ends of an interval as a rule has them.
 pub record LawfulEnds (lo hi : ℤ) : Type 0 where
-  pub low : negsuc 127 ≤ℤ lo
+  pub low : min_end ≤ℤ lo
   pub ordered : lo ≤ℤ hi
-  pub high : hi ≤ℤ pos 128
-  pub narrow : span lo hi ≤ 64
+  pub high : hi ≤ℤ max_end
+  pub narrow : span lo hi ≤ max_width
 
 -- The ends of the interval of an inverse, if there is one, as a rule has them.
 abbrev pub LawfulInverse : Option (ℤ × ℤ) → Type 0
@@ -27,14 +29,14 @@ pub record Packable (x : Numbers) : Type 0 where
   pub ends : LawfulEnds x.lo x.hi
   pub inverse : LawfulInverse x.inverse
   pub some : 1 ≤ x.states
-  pub few : x.states ≤ 16777216
-  pub block : x.block ≤ 65536
+  pub few : x.states ≤ max_states
+  pub block : x.block ≤ max_block
 
 -- The numbers of a tower within the limits.
 pub record Workable (x : Numbers) : Type 0 where
   pub packable : Packable x
-  pub steps : x.steps ≤ 65536
-  pub drift : unsigned_abs x.drift ≤ 16777216
+  pub steps : x.steps ≤ max_steps
+  pub drift : unsigned_abs x.drift ≤ max_drift
 
 -- what an action answers
 

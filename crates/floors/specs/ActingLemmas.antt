@@ -1,9 +1,10 @@
 -- Lemmas on actions: their numbers are those of the towers that they make, and a floor over a tower that stands stands.
-use Rattle.std.specs.Prelude.{◌≡◌, ℕ, ◌^◌, ◌≤◌, Bool, true, false, cond, ◌&&◌, ℤ, pos, negsuc, ◌+ℤ◌, neg_ℤ, ◌≤ℤ◌, IfSome, Some, None, Option, int_le, nat_le, unsigned_abs, refl}
+use Rattle.std.specs.Prelude.{◌≡◌, ℕ, ◌^◌, ◌≤◌, Bool, true, false, cond, ◌&&◌, ℤ, ◌+ℤ◌, neg_ℤ, ◌≤ℤ◌, IfSome, Some, None, Option, int_le, nat_le, unsigned_abs, refl}
 use Rattle.std.proofs.Common.{sym, ap, subst, ◌∙◌, arith}
 use Rattle.std.proofs.lemmas.Int.{ints}
 use Rattle.std.proofs.lemmas.Bool.{leb-true, le-leb, and_parts, and_from, cond_both, true≢false}
 use Rattle.std.specs.Option.{option_map}
+use Rattle.rings.specs.Limits.{max_states, min_end, max_end, max_width, ends_fit}
 use Rattle.rings.specs.Local.{Local, span}
 use Rattle.rings.specs.Automaton.{Narrow, Bounded, Proper, Inverse}
 use Rattle.rings.specs.Transformations.{iterate_local, shift_local, mirror_local, pack_local}
@@ -14,7 +15,8 @@ use Rattle.towers.specs.declared.numbers.Numbers.{Numbers}
 use Rattle.towers.specs.Towers.{Tower, Stands}
 use Rattle.floors.specs.Transformed.{iterate_tower, shift_tower, mirror_tower, pack_tower}
 use Rattle.towers.specs.Numbers.{numbers_of, Standing}
-use Rattle.floors.specs.Actions.{act_on, iterate_ends, shift_ends, mirror_ends, pack_ends, iterate_numbers, shift_numbers, mirror_numbers, pack_numbers, reduced_block, act_numbers, in_range, ends_fit, inverse_fits, intervals_fit, within_limits, reduces, fits, floor_or, floor_numbers}
+use Rattle.floors.specs.Limits.{max_block, max_steps, max_drift}
+use Rattle.floors.specs.Actions.{act_on, iterate_ends, shift_ends, mirror_ends, pack_ends, iterate_numbers, shift_numbers, mirror_numbers, pack_numbers, reduced_block, act_numbers, in_range, inverse_fits, intervals_fit, within_limits, reduces, fits, floor_or, floor_numbers}
 use Rattle.floors.specs.Acting.{LawfulEnds, LawfulInverse, Packable, Workable, limited, acted}
 use Rattle.floors.specs.TransformedLemmas.{stands_iterate, stands_shift, stands_mirror, stands_pack, stands_reduce}
 
@@ -80,7 +82,7 @@ le_z_true : (a b : ℤ) → int_le a b ≡ true → a ≤ℤ b
 le_z_true a b h = grind (arith, ints)
 
 -- what the test of an interval says
-fitting-ends : (lo hi : ℤ) → ends_fit lo hi ≡ true → (negsuc 127 ≤ℤ lo) × (hi ≤ℤ pos 128) × (span lo hi ≤ 64)
+fitting-ends : (lo hi : ℤ) → ends_fit lo hi ≡ true → (min_end ≤ℤ lo) × (hi ≤ℤ max_end) × (span lo hi ≤ max_width)
 fitting-ends lo hi h =
     let p = and_parts _ _ h in
     let r = and_parts _ _ p.1 in
@@ -96,11 +98,11 @@ narrow-inverse (Some l) h = narrow l h
 
 -- what the limits say, one after the other
 record Within (x : Numbers) : Type 0 where
-  states : x.states ≤ 16777216
+  states : x.states ≤ max_states
   intervals : intervals_fit x ≡ true
-  block : x.block ≤ 65536
-  steps : x.steps ≤ 65536
-  drift : unsigned_abs x.drift ≤ 16777216
+  block : x.block ≤ max_block
+  steps : x.steps ≤ max_steps
+  drift : unsigned_abs x.drift ≤ max_drift
 
 within : (x : Numbers) → within_limits x ≡ true → Within x
 unfolding within_limits
@@ -187,9 +189,9 @@ workable t s =
 -- what the code of packing and reduction answers
 
 -- too many states
-pub packed_not : (m : ℕ) (x : Numbers) → None ≡ cond (nat_le (x.states ^ m) 16777216) (Some (x.states ^ m)) None → None ≡ limited (pack_numbers m x)
+pub packed_not : (m : ℕ) (x : Numbers) → None ≡ cond (nat_le (x.states ^ m) max_states) (Some (x.states ^ m)) None → None ≡ limited (pack_numbers m x)
 unfolding within_limits
-packed_not m x = by (nat_le (x.states ^ m) 16777216) _ where
+packed_not m x = by (nat_le (x.states ^ m) max_states) _ where
   by : (b c : Bool) → None ≡ cond b (Some (x.states ^ m)) None → None ≡ cond (b && c) (Some (pack_numbers m x)) None
   by true c h = let z : ◌≡◌ {A = ℕ} 0 1 = cc in absurd (omega arith)
   by false c h = refl

@@ -1,12 +1,14 @@
 -- The six actions of a floor: their numbers and ranges, what each makes of a tower and of its numbers, and when it fits.
-use Rattle.std.specs.Prelude.{ℕ, ◌-◌, ◌*◌, ◌^◌, max, Bool, true, cond, not, ◌&&◌, ℤ, pos, negsuc, ◌+ℤ◌, ◌*ℤ◌, neg_ℤ, Some, None, Option, ◌==◌, int_le, nat_le, unsigned_abs}
+use Rattle.std.specs.Prelude.{ℕ, ◌-◌, ◌*◌, ◌^◌, max, Bool, true, cond, not, ◌&&◌, ℤ, pos, ◌+ℤ◌, ◌*ℤ◌, neg_ℤ, Some, None, Option, ◌==◌, int_le, nat_le, unsigned_abs}
 use Rattle.std.specs.Option.{option_map}
 use Rattle.rings.specs.Integers.{floor_div}
+use Rattle.rings.specs.Limits.{max_states, ends_fit}
 use Rattle.rings.specs.Local.{span}
 use Rattle.floors.specs.declared.action.Action.{Action}
 use Rattle.floors.specs.declared.action.Action.TheVariants.{Unchanged, Pack, Iterate, Shift, Mirror, Reduce}
 use Rattle.towers.specs.declared.numbers.Numbers.{Numbers}
 use Rattle.towers.specs.Towers.{Tower, signed}
+use Rattle.floors.specs.Limits.{max_argument, min_shift, max_block, max_steps, max_drift}
 use Rattle.floors.specs.Transformed.{iterate_tower, shift_tower, mirror_tower, pack_tower, reduce_tower}
 use Rattle.towers.specs.Numbers.{numbers_of}
 
@@ -104,16 +106,13 @@ act_numbers Reduce x = pack_numbers (reduced_block x) (shift_numbers (neg_ℤ x.
 -- The argument of an action is in its range.
 abbrev pub in_range : Action → Bool
 in_range Unchanged = true
-in_range (Pack m) = nat_le 1 m && nat_le m 16
-in_range (Iterate u) = nat_le 1 u && nat_le u 16
-in_range (Shift s) = int_le (negsuc 15) s && int_le s (pos 16)
+in_range (Pack m) = nat_le 1 m && nat_le m max_argument
+in_range (Iterate u) = nat_le 1 u && nat_le u max_argument
+in_range (Shift s) = int_le min_shift s && int_le s (pos max_argument)
 in_range Mirror = true
 in_range Reduce = true
 
--- The ends of an interval keep the laws of a rule.
-abbrev pub ends_fit : ℤ → ℤ → Bool
-ends_fit lo hi = int_le (negsuc 127) lo && (int_le hi (pos 128) && nat_le (span lo hi) 64)
-
+-- The interval of an inverse, if there is one, keeps the laws of a rule.
 abbrev pub inverse_fits : Option (ℤ × ℤ) → Bool
 inverse_fits None = true
 inverse_fits (Some e) = ends_fit e.0 e.1
@@ -124,16 +123,16 @@ intervals_fit x = ends_fit x.lo x.hi && inverse_fits x.inverse
 
 -- The limits, one after the other: states, the two intervals, M, T, S.
 unfoldable pub within_limits : Numbers → Bool
-within_limits x = nat_le x.states 16777216 && (intervals_fit x && (nat_le x.block 65536 && (nat_le x.steps 65536 && nat_le (unsigned_abs x.drift) 16777216)))
+within_limits x = nat_le x.states max_states && (intervals_fit x && (nat_le x.block max_block && (nat_le x.steps max_steps && nat_le (unsigned_abs x.drift) max_drift)))
 
--- What reduction asks besides: a block of at most 16 cells, and shifted intervals that keep the laws of a rule.
+-- What reduction asks besides: a block of few enough cells, and shifted intervals that keep the laws of a rule.
 abbrev pub reduces : Action → Numbers → Bool
 reduces Unchanged x = true
 reduces (Pack m) x = true
 reduces (Iterate u) x = true
 reduces (Shift s) x = true
 reduces Mirror x = true
-reduces Reduce x = nat_le (reduced_block x) 16 && intervals_fit (shift_numbers (neg_ℤ x.lo) x)
+reduces Reduce x = nat_le (reduced_block x) max_argument && intervals_fit (shift_numbers (neg_ℤ x.lo) x)
 
 -- The outcome keeps the limits.
 abbrev pub fits : Action → Numbers → Bool
@@ -170,7 +169,7 @@ when_zero a act = when (int_le (pos 0) a && int_le a (pos 0)) act
 abbrev pub numbered_action : ℕ → ℤ → Option Action
 numbered_action n a =
     cond (n == 0) (when_zero a Unchanged)
-    (cond (n == 1) (when (int_le (pos 1) a && int_le a (pos 16)) (Pack (unsigned_abs a)))
-    (cond (n == 2) (when (int_le (pos 1) a && int_le a (pos 16)) (Iterate (unsigned_abs a)))
-    (cond (n == 3) (when (int_le (negsuc 15) a && int_le a (pos 16)) (Shift a))
+    (cond (n == 1) (when (int_le (pos 1) a && int_le a (pos max_argument)) (Pack (unsigned_abs a)))
+    (cond (n == 2) (when (int_le (pos 1) a && int_le a (pos max_argument)) (Iterate (unsigned_abs a)))
+    (cond (n == 3) (when (int_le min_shift a && int_le a (pos max_argument)) (Shift a))
     (cond (n == 4) (when_zero a Mirror) (cond (n == 5) (when_zero a Reduce) None)))))

@@ -1,3 +1,4 @@
+pub mod Limits
 pub mod Transformed
 pub mod Actions
 pub mod Acting

@@ -9,14 +9,17 @@ ghost use Rattle.rings.specs.Automaton.{toward};
 ghost use Rattle.rings.specs.Packing.{digit, unblocks};
 ghost use Rattle.rings.specs.Transformations.{map_list_windows, iterate_local, mirror_local, pack_value};
 ghost use Rattle.rules.specs.Steps.{value_of, Reads};
+ghost use Rattle.rings.specs.Limits.{max_width};
 ghost use Rattle.floors.specs.Asking.{HasWidth, Packing};
+ghost use Rattle.floors.specs.Limits.{max_digits};
 
+use crate::action::MAX_ARGUMENT;
 use crate::numbers::Block;
-use rings::{Direction, MAX_WIDTH};
+use rings::{Direction, MAX_WIDTH, cell_at};
 use rules::Rule;
 
-// Room for the digits of the widest window: 64 cells of 16 digits.
-const MAX_DIGITS: usize = 1024;
+// Room for the digits of the widest window, in an array: the library uses no heap.
+const MAX_DIGITS: usize = MAX_WIDTH * MAX_ARGUMENT as usize;
 
 // A rule in a direction in which it goes, with its number of states and the width of its windows.
 #[derive(Drop)]
@@ -36,7 +39,7 @@ impl<R: Rule> DirectedRule<'_, R> {
         ensures value { result ≡ value_of (toward self.now.direction (R.Rule.meaning self.now.rule.now)) window.now }
         ensures below { result < self.now.states }
     {
-        self.rule.step(self.direction, window).unwrap_or(0)
+        self.rule.step(self.direction, window).unwrap()
     }
 
     // Puts the next row, which is width - 1 cells shorter, in place of the first cells of a row.
@@ -45,6 +48,7 @@ impl<R: Rule> DirectedRule<'_, R> {
         requires codes { Codes self.now.states row.old }
         ensures { take (length row.old + 1 - self.now.width) row.new ≡ map_list_windows (value_of (toward self.now.direction (R.Rule.meaning self.now.rule.now))) self.now.width row.old }
     {
+        // a loop over places: each step reads a window of the row into which it writes
         for i in 0..row.len() + 1 - self.width {
             row[i] = self.apply(&row[i..i + self.width]);
         }
@@ -53,7 +57,7 @@ impl<R: Rule> DirectedRule<'_, R> {
     // The code at a window of `times` steps.
     pub(crate) fn iterated(&self, times: u32, window: &[u32]) -> u32
         requires reads { Reads self.now.states (option_map (iterate_local times) (toward self.now.direction (R.Rule.meaning self.now.rule.now))) window.now }
-        requires short { length window.now ≤ 64 }
+        requires short { length window.now ≤ max_width }
         ensures { result ≡ value_of (option_map (iterate_local times) (toward self.now.direction (R.Rule.meaning self.now.rule.now))) window.now }
     {
         let mut row = row_of(window);
@@ -80,7 +84,7 @@ impl<R: Rule> DirectedRule<'_, R> {
         ensures { result ≡ pack_value self.now.states block.cells (value_of (toward self.now.direction (R.Rule.meaning self.now.rule.now))) (floor_mod lo block.cells) self.now.width window.now }
     {
         let digits = unpack(window, self.states, block);
-        let skip = block.offset(lo);
+        let skip = cell_at(i64::from(lo), block.cells as usize).unwrap();
         let cells = &digits[skip..skip + block.cells as usize - 1 + self.width];
         let mut code = 0;
         let mut weight = 1;
@@ -92,9 +96,9 @@ impl<R: Rule> DirectedRule<'_, R> {
     }
 }
 
-// The window at the front of a row.
+// The window at the front of a row with room for the widest one, in an array: the library uses no heap.
 fn row_of(window: &[u32]) -> [u32; MAX_WIDTH]
-    requires { length window.now ≤ 64 }
+    requires { length window.now ≤ max_width }
     ensures { take (length window.now) result ≡ window.now }
 {
     let mut row = [0; MAX_WIDTH];
@@ -117,11 +121,12 @@ fn write_digits(code: u32, states: u32, cells: &mut [u32])
 // The digits of each code of a window, one code after the other, at the front of room for the widest window.
 fn unpack(window: &[u32], states: u32, block: Block) -> [u32; MAX_DIGITS]
     requires some { 1 ≤ states }
-    requires room { length window.now * block.cells ≤ 1024 }
+    requires room { length window.now * block.cells ≤ max_digits }
     ensures { take (length window.now * block.cells) result ≡ unblocks states block.cells window.now }
 {
     let size = block.cells as usize;
     let mut digits = [0; MAX_DIGITS];
+    // a loop over places: each code writes a part of the array, and of chunks that are lent to a `zip` a proof knows nothing
     for (i, code) in window.iter().enumerate() {
         let start = i * size;
         write_digits(*code, states, &mut digits[start..start + size]);

@@ -67,16 +67,12 @@ impl<T: Tower> Floor<T> {
             states: below.numbers.states,
             width: interval_width(lo, hi),
         };
-        match self.action {
-            Action::Unchanged | Action::Shift(_) => Ok(rule.apply(window)),
-            Action::Iterate(times) => Ok(rule.iterated(times, window)),
-            Action::Mirror => Ok(rule.mirrored(window)),
-            Action::Pack(cells) => Ok(rule.packed(Block { cells }, lo, window)),
-            Action::Reduce => {
-                let cells = below.reduced_block();
-                Ok(rule.packed(Block { cells }, lo, window))
-            }
-        }
+        Ok(match self.action {
+            Action::Unchanged | Action::Shift(_) => rule.apply(window),
+            Action::Iterate(times) => rule.iterated(times, window),
+            Action::Mirror => rule.mirrored(window),
+            Action::Pack(_) | Action::Reduce => rule.packed(below.block(self.action), lo, window),
+        })
     }
 }
 
@@ -184,11 +180,7 @@ fn moved_place(action: Action, below: TowerNumbers, n: usize, place: Place) -> P
     let digits = below.numbers.block;
     match action {
         Action::Unchanged | Action::Iterate(_) | Action::Shift(_) => place,
-        Action::Pack(cells) => packed_place(place, Block { cells }, digits),
         Action::Mirror => mirrored_place(place, n / digits as usize),
-        Action::Reduce => {
-            let cells = below.reduced_block();
-            packed_place(place, Block { cells }, digits)
-        }
+        Action::Pack(_) | Action::Reduce => packed_place(place, below.block(action), digits),
     }
 }

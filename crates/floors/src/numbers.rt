@@ -1,19 +1,20 @@
 // What an action makes of the numbers of a tower.
-ghost use Rattle.std.specs.Prelude.{◌≡◌, ◌≤◌, neg_ℤ, ◌*ℤ◌, ◌+ℤ◌, pos, unsigned_abs};
+ghost use Rattle.std.specs.Prelude.{◌≡◌, ◌≤◌, true, ◌&&◌, neg_ℤ, ◌*ℤ◌, ◌+ℤ◌, pos, unsigned_abs};
 ghost use Rattle.std.specs.Option.{option_map};
 ghost use Rattle.std.proofs.Props.{props};
-ghost use Rattle.rings.specs.Integers.{floor_mod};
 ghost use Rattle.rings.specs.Refusals.{outcome};
 ghost use Rattle.towers.specs.Numbers.{numbers_of};
 ghost use Rattle.towers.specs.Towers.{signed};
 ghost use Rattle.floors.specs.declared.action.Action.TheVariants.{Reduce};
-ghost use Rattle.floors.specs.Actions.{iterate_ends, shift_ends, mirror_ends, pack_ends, iterate_numbers, shift_numbers, mirror_numbers, pack_numbers, reduced_block, ends_fit, inverse_fits, intervals_fit, within_limits};
+ghost use Rattle.floors.specs.Actions.{iterate_ends, shift_ends, mirror_ends, pack_ends, iterate_numbers, shift_numbers, mirror_numbers, pack_numbers, reduced_block, in_range, fits, inverse_fits, intervals_fit, within_limits};
 ghost use Rattle.floors.specs.Acting.{LawfulEnds, Workable, limited, acted};
+ghost use Rattle.floors.specs.Asking.{block_of};
 ghost use Rattle.floors.specs.Floors.{floor_fault};
+ghost use Rattle.floors.specs.Limits.{max_argument, max_turn};
 
 use crate::Action;
 use crate::action::MAX_ARGUMENT;
-use rings::{MAX_END, MAX_STATES, MAX_WIDTH, MIN_END, interval_width, power_within};
+use rings::{MAX_STATES, ends_fit, interval_width, power_within};
 use rules::RuleFault;
 use towers::{Numbers, Tower, TowerFault};
 
@@ -28,16 +29,7 @@ const MAX_DRIFT: u32 = 16_777_216;
 pub(crate) struct Block {
     pub cells: u32,
     ghost some: { 1 ≤ cells },
-    ghost few: { cells ≤ 16 },
-}
-
-impl Block {
-    // In which cell of its block a cell stands.
-    pub(crate) fn offset(self, cell: i32) -> usize
-        ensures { result ≡ floor_mod cell self.cells }
-    {
-        cell.rem_euclid(self.cells as i32) as usize
-    }
+    ghost few: { cells ≤ max_argument },
 }
 
 // An interval that keeps the laws of a rule.
@@ -51,7 +43,7 @@ struct Interval {
 impl Interval {
     // The ends after this many steps at once.
     fn iterated(self, times: u32) -> (i32, i32)
-        requires { times ≤ 16 }
+        requires { times ≤ max_argument }
         ensures { result ≡ iterate_ends times (self.lo, self.hi) }
     {
         (self.lo * times as i32, self.hi * times as i32)
@@ -59,7 +51,7 @@ impl Interval {
 
     // The ends moved by s cells.
     fn shifted(self, s: i32) -> (i32, i32)
-        requires { unsigned_abs s ≤ 128 }
+        requires { unsigned_abs s ≤ max_turn }
         ensures { result ≡ shift_ends s (self.lo, self.hi) }
     {
         (self.lo + s, self.hi + s)
@@ -150,7 +142,7 @@ impl TowerNumbers {
 
     // The numbers of this many steps at once.
     fn iterated(self, times: u32) -> Numbers
-        requires { times ≤ 16 }
+        requires { times ≤ max_argument }
         ensures { result ≡ iterate_numbers times self.numbers }
     {
         let (lo, hi) = self.interval().iterated(times);
@@ -174,7 +166,7 @@ impl TowerNumbers {
 
     // The numbers of a step and a rotation by s cells.
     fn shifted(self, s: i32) -> Numbers
-        requires { unsigned_abs s ≤ 128 }
+        requires { unsigned_abs s ≤ max_turn }
         ensures { result ≡ shift_numbers s self.numbers }
     {
         let (lo, hi) = self.interval().shifted(s);
@@ -228,10 +220,23 @@ impl TowerNumbers {
     }
 
     // How many cells reduction packs into one: the width less one, and at least one.
-    pub(crate) fn reduced_block(self) -> u32
+    fn reduced_block(self) -> u32
         ensures { result ≡ reduced_block self.numbers }
     {
         (interval_width(self.numbers.lo, self.numbers.hi) as u32 - 1).max(1)
+    }
+
+    // How many cells an action that fits packs into one; 1 where it does not pack.
+    pub(crate) fn block(self, action: Action) -> Block
+        requires { (in_range action && fits action self.numbers) ≡ true }
+        ensures { result.cells ≡ block_of action self.numbers }
+    {
+        let cells = match action {
+            Action::Pack(cells) => cells,
+            Action::Reduce => self.reduced_block(),
+            Action::Unchanged | Action::Iterate(_) | Action::Shift(_) | Action::Mirror => 1,
+        };
+        Block { cells }
     }
 
     // The numbers shifted so that the interval begins at 0 and then packed so that it has at most two cells, if they are within their
@@ -246,13 +251,6 @@ impl TowerNumbers {
         }
         TowerNumbers { numbers }.packed(Block { cells })
     }
-}
-
-// The ends of an interval keep the laws of a rule.
-fn ends_fit(lo: i32, hi: i32) -> bool
-    ensures { result ≡ ends_fit lo hi }
-{
-    lo >= MIN_END && hi <= MAX_END && interval_width(lo, hi) <= MAX_WIDTH
 }
 
 // The interval of an inverse, if there is one, keeps the laws of a rule.

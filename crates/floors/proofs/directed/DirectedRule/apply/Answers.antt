@@ -1,14 +1,22 @@
-use Rattle.std.proofs.Common.{ap, ◌∙◌, subst}
-use Rattle.std.specs.Result.{result_unwrap_or}
+use Rattle.std.proofs.Common.{◌≡◌, ℕ, Ok, IsOk, Result, sym, refl, ◌∙◌, subst}
 use Rattle.rings.specs.Automaton.{toward}
-use Rattle.rules.specs.Steps.{Reads}
+use Rattle.rules.specs.declared.fault.RuleFault.{RuleFault}
+use Rattle.rules.specs.Steps.{value_of, Reads}
 use Rattle.rules.proofs.Maps.{answer-reads}
+use Rattle.floors.proofs.directed.DirectedRule.apply.Given as given
 use Rattle.floors.proofs.directed.DirectedRule.apply.Goals as goal
+use Rattle.floors.proofs.directed.DirectedRule.apply.Goals.{After-step}
 
-pub returns-clause-value : goal.returns-clause-value
-returns-clause-value g c =
+stepped : (g : given.Over) (c : After-step g) → c.step.result ≡ Ok (value_of (toward c.args.self.now.direction (g.R.Rule.meaning c.args.self.now.rule.now)) c.args.window.now)
+stepped g c =
     let x = c.args.self.now in
     let a = g.R.Rule.meaning x.rule.now in
     let o = toward x.direction a in
     let ws = c.args.window.now in
-    c.unwrap_or.ensures ∙ ap (λ r. result_unwrap_or r 0) (c.step.ensures.answer ∙ answer-reads a.states o ws (subst (λ q. Reads q o ws) x.same c.requires))
+    c.step.ensures.answer ∙ answer-reads a.states o ws (subst (λ q. Reads q o ws) x.same c.requires)
+
+pub unwrap-requires : goal.unwrap-requires
+unwrap-requires g c = subst (λ (r : Result ℕ RuleFault). IsOk r) (sym (stepped g c)) refl
+
+pub returns-clause-value : goal.returns-clause-value
+returns-clause-value g c = let is = sym c.unwrap.ensures ∙ stepped g (goal.at.returns-clause-value g c).After-step in cc

@@ -10,7 +10,8 @@ use Rattle.rules.specs.Answers.{checked}
 use Rattle.rules.specs.Steps.{value_of}
 use Rattle.floors.specs.declared.action.Action.TheVariants.{Iterate, Mirror}
 use Rattle.floors.specs.Asking.{HasWidth, Packing, interval, packed_numbers}
-use Rattle.floors.proofs.Answering.{Acts, Window, states_below, wide_below, refuses_below, refuses_window, short_above, answers_as, reads_kept, answers_kept, reads_iterated, reads_mirrored, pack_asks, answers_pack, reduce_range, reduce_asks, answers_reduce}
+use Rattle.floors.proofs.Answering.{Acts, Window, states_below, wide_below, refuses_below, refuses_window, short_above, answers_as, reads_kept, answers_kept, reads_iterated, reads_mirrored, block_asks, answers_block}
+use Rattle.floors.proofs.Places.{outcome_is}
 use Rattle.floors.proofs.floor.Floor.answer.Given as given
 use Rattle.floors.proofs.floor.Floor.answer.Goals as goal
 use Rattle.floors.proofs.floor.Floor.answer.Goals.{In-Some, In_ok-first, After-interval_width, In_ok-check_window, In_ok-lo, After-interval_width-2}
@@ -98,30 +99,18 @@ mirrored-requires g c = reads_mirrored (window g (goal.at.mirrored-requires g c)
 pub returns-in-Mirror : goal.returns-in-Mirror
 returns-in-Mirror g c = answers_as (window g (goal.at.returns-in-Mirror g c).In_ok-check_window) Mirror c.in-Mirror.is c.mirrored.result c.mirrored.ensures
 
+pub block-requires : goal.block-requires
+block-requires g c = (outcome_is c.args.self.now.action c.of-below.result.numbers c.in-Some.top c.in-Some.ensures).0
+
 pub packed-requires : goal.packed-requires
 packed-requires g c =
     let at = goal.at.packed-requires g c in
-    rw (start g at.In_ok-lo, wide g at.After-interval_width-2) (pack_asks (window g at.In_ok-check_window) (c.in_ok-lo.lo, c.in_ok-lo.hi) (starts g at.In_ok-lo) c.in-Pack.cells c.in-Pack.is)
+    rw (start g at.In_ok-lo, wide g at.After-interval_width-2)
+    (block_asks (window g at.In_ok-check_window) (c.in_ok-lo.lo, c.in_ok-lo.hi) (starts g at.In_ok-lo) c.block.result.cells c.block.result.some c.block.ensures c.in-Pack.is)
 
 pub returns-in-Pack : goal.returns-in-Pack
 returns-in-Pack g c =
     let at = goal.at.returns-in-Pack g c in
-    answers_pack (window g at.In_ok-check_window) (c.in_ok-lo.lo, c.in_ok-lo.hi) (starts g at.In_ok-lo) c.in-Pack.cells c.in-Pack.is c.packed.result
-    (c.packed.ensures ∙ ap₂ (λ (z : ℤ) (w : ℕ). pack_value c.of-below.result.numbers.states c.in-Pack.cells (value_of (toward c.args.direction (g.T.Rule.meaning c.args.self.now.below))) (floor_mod z c.in-Pack.cells) w c.args.window.now) (start g at.In_ok-lo) (wide g at.After-interval_width-2))
-
-pub invariant_of-packed-in-Reduce : goal.invariant_of-packed-in-Reduce
-invariant_of-packed-in-Reduce g c =
-    let at = goal.at.invariant_of-packed-in-Reduce g c in
-    let range = reduce_range (window g at.In_ok-check_window) (c.in_ok-lo.lo, c.in_ok-lo.hi) (starts g at.In_ok-lo) c.reduced_block-cells.result c.in-Reduce.is c.reduced_block-cells.ensures in
-    record { some = range.0; few = range.1 }
-
-pub packed-requires-in-Reduce : goal.packed-requires-in-Reduce
-packed-requires-in-Reduce g c =
-    let at = goal.at.packed-requires-in-Reduce g c in
-    rw (start g at.In_ok-lo, wide g at.After-interval_width-2) (reduce_asks (window g at.In_ok-check_window) (c.in_ok-lo.lo, c.in_ok-lo.hi) (starts g at.In_ok-lo) c.reduced_block-cells.result c.in-Reduce.is c.reduced_block-cells.ensures)
-
-pub returns-in-Reduce : goal.returns-in-Reduce
-returns-in-Reduce g c =
-    let at = goal.at.returns-in-Reduce g c in
-    answers_reduce (window g at.In_ok-check_window) (c.in_ok-lo.lo, c.in_ok-lo.hi) (starts g at.In_ok-lo) c.reduced_block-cells.result c.in-Reduce.is c.reduced_block-cells.ensures c.packed-in-Reduce.result
-    (c.packed-in-Reduce.ensures ∙ ap₂ (λ (z : ℤ) (w : ℕ). pack_value c.of-below.result.numbers.states c.reduced_block-cells.result (value_of (toward c.args.direction (g.T.Rule.meaning c.args.self.now.below))) (floor_mod z c.reduced_block-cells.result) w c.args.window.now) (start g at.In_ok-lo) (wide g at.After-interval_width-2))
+    let m = c.block.result.cells in
+    answers_block (window g at.In_ok-check_window) (c.in_ok-lo.lo, c.in_ok-lo.hi) (starts g at.In_ok-lo) m c.block.result.some c.block.ensures c.in-Pack.is c.packed.result
+    (c.packed.ensures ∙ ap₂ (λ (z : ℤ) (w : ℕ). pack_value c.of-below.result.numbers.states m (value_of (toward c.args.direction (g.T.Rule.meaning c.args.self.now.below))) (floor_mod z m) w c.args.window.now) (start g at.In_ok-lo) (wide g at.After-interval_width-2))
