@@ -2,7 +2,7 @@
 use Rattle.std.proofs.Common.{◌≡◌, ℕ, ◌+◌, ◌-◌, ◌*◌, ◌^◌, ◌≤◌, Bool, true, false, cond, ◌&&◌, ◌⊎◌, List, length, ℤ, neg_ℤ, ◌≤ℤ◌, Some, None, Ok, Err, Option, Result, sym, refl, ap, ◌∙◌, subst, ap₂, inl, inr, arith}
 use Rattle.std.proofs.lemmas.Bool.{leb-true, and_parts, cond-true}
 use Rattle.std.proofs.lemmas.Int.{ints}
-use Rattle.std.specs.Option.{option_map}
+use Rattle.std.specs.Option.{option_map, ok_or}
 use Rattle.rings.specs.declared.Direction.{Direction}
 use Rattle.rings.specs.declared.Direction.TheVariants.{Forward, Backward}
 use Rattle.rings.specs.Integers.{floor_mod}
@@ -173,6 +173,16 @@ value_packed : (q m : ℕ) (o : Option Local) (h : Local → Local) (e : ℤ × 
 value_packed q m None h e ws same k = let z : ◌≡◌ {A = ℕ} 0 1 = cc in absurd (omega arith)
 value_packed q m (Some l) h e ws same k =
     ap (λ v. pack_value q m v (floor_mod e.0 m) (span e.0 e.1) ws) (sym (same l)) ∙ ap (λ f. pack_value q m (h l).value (floor_mod f.0 m) (span f.0 f.1) ws) (sym (ends_are (h l) e k))
+
+-- an interval, or none, as `ok_or` told it
+
+pub told_some : {X E : Type 0} (o : Option X) (x : X) (e : E) → Ok x ≡ ok_or o e → Some x ≡ o
+told_some None x e h = let z : ◌≡◌ {A = ℕ} 0 1 = cc in absurd (omega arith)
+told_some (Some y) x e h = cc
+
+pub told_none : {X E : Type 0} (o : Option X) (e f : E) → Err f ≡ ok_or o e → None ≡ o
+told_none None e f h = refl
+told_none (Some y) e f h = let z : ◌≡◌ {A = ℕ} 0 1 = cc in absurd (omega arith)
 
 -- a floor whose action acts
 

@@ -13,7 +13,7 @@ product_small (pos k) n a b h l = omega (arith, ints, mul-le-mul h l)
 product_small (negsuc k) n a b h l = omega (arith, ints, mul-le-mul h l)
 
 -- a small number fits
-fits_small : (z : ℤ) → nat_abs z < 2 ^ 31 → SFits w32 z
+pub fits_small : (z : ℤ) → nat_abs z < 2 ^ 31 → SFits w32 z
 fits_small z h = search rules
 
 -- the product of a number and a count, as the code forms it
@@ -35,19 +35,10 @@ module _ (x y a b : ℤ) (e : a ≡ x) (f : b ≡ y) (small : nat_abs x + nat_ab
   pub sum_is : to_z w32 (of_z w32 (a +ℤ b)) ≡ x +ℤ y
   sum_is = to_z-of_z w32 (a +ℤ b) sum_fits ∙ ap₂ (λ (m n : ℤ). m +ℤ n) e f
 
--- the sign of a tower times a number of cells, as the code forms it
-module _ (v : Bool) (sign s : ℤ) (e : sign ≡ signed v (pos 1)) (small : nat_abs s ≤ 128) where
-  pub turn_is : to_z w32 (of_z w32 sign) *ℤ to_z w32 (of_z w32 s) ≡ signed v s
-  turn_is = ap (λ z. to_z w32 (of_z w32 z) *ℤ to_z w32 (of_z w32 s)) e ∙ by v where
-    by : (b : Bool) → to_z w32 (of_z w32 (signed b (pos 1))) *ℤ to_z w32 (of_z w32 s) ≡ signed b s
-    by true = omega (arith, ints)
-    by false = omega (arith, ints)
-
-  pub turn_small : nat_abs (to_z w32 (of_z w32 sign) *ℤ to_z w32 (of_z w32 s)) ≤ 128
-  turn_small = rw turn_is (by v) where
-    by : (b : Bool) → nat_abs (signed b s) ≤ 128
-    by true = omega (arith, ints)
-    by false = small
+-- a number of cells, or its negation in a mirrored tower
+pub signed_small : (v : Bool) (s : ℤ) → nat_abs s ≤ 128 → nat_abs (signed v s) ≤ 128
+signed_small true s small = omega (arith, ints)
+signed_small false s small = small
 
 -- the negation of an end, as the code forms it
 pub negation_is : (z : ℤ) → nat_abs z ≤ 128 → to_z w32 (of_z w32 (pos 0 -ℤ to_z w32 (of_z w32 z))) ≡ neg_ℤ z

@@ -1,5 +1,5 @@
 // What an action makes of the numbers of a tower.
-ghost use Rattle.std.specs.Prelude.{◌≡◌, ◌≤◌, true, ◌&&◌, neg_ℤ, ◌*ℤ◌, ◌+ℤ◌, pos, unsigned_abs};
+ghost use Rattle.std.specs.Prelude.{◌≡◌, ◌*◌, ◌≤◌, true, ◌&&◌, neg_ℤ, ◌*ℤ◌, ◌+ℤ◌, pos, unsigned_abs};
 ghost use Rattle.std.specs.Option.{option_map};
 ghost use Rattle.std.proofs.Props.{props};
 ghost use Rattle.rings.specs.Refusals.{outcome};
@@ -10,7 +10,7 @@ ghost use Rattle.floors.specs.Actions.{iterate_ends, shift_ends, mirror_ends, pa
 ghost use Rattle.floors.specs.Acting.{LawfulEnds, Workable, limited, acted};
 ghost use Rattle.floors.specs.Asking.{block_of};
 ghost use Rattle.floors.specs.Floors.{floor_fault};
-ghost use Rattle.floors.specs.Limits.{max_argument, max_turn};
+ghost use Rattle.floors.specs.Limits.{max_argument, max_turn, max_block};
 
 use crate::Action;
 use crate::action::MAX_ARGUMENT;
@@ -157,11 +157,21 @@ impl TowerNumbers {
         }
     }
 
-    // 1, or -1 in a mirrored tower.
-    fn sign(self) -> i32
-        ensures { result ≡ signed self.numbers.mirrored (pos 1) }
+    // s, or -s in a mirrored tower.
+    fn signed(self, s: i32) -> i32
+        requires { unsigned_abs s ≤ max_turn }
+        ensures { result ≡ signed self.numbers.mirrored s }
     {
-        if self.numbers.mirrored { -1 } else { 1 }
+        if self.numbers.mirrored { -s } else { s }
+    }
+
+    // By how many cells a rotation of the top by s cells turns the bottom ring.
+    fn turn(self, s: i32) -> i32
+        requires { unsigned_abs s ≤ max_turn }
+        ensures value { result ≡ signed self.numbers.mirrored s *ℤ pos self.numbers.block }
+        ensures small { unsigned_abs result ≤ max_turn * max_block }
+    {
+        self.signed(s) * self.numbers.block as i32
     }
 
     // The numbers of a step and a rotation by s cells.
@@ -175,7 +185,7 @@ impl TowerNumbers {
             lo,
             hi,
             inverse,
-            drift: self.numbers.drift + self.sign() * s * self.numbers.block as i32,
+            drift: self.numbers.drift + self.turn(s),
             ..self.numbers
         }
     }

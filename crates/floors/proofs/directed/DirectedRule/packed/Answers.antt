@@ -68,13 +68,13 @@ next g c =
     next_number (under g (goal.at.After-apply g c).After-into_iter-window-iterator) c.loop-window.invariant.3 rest c.in-Some.window.now c.loop-window.invariant.2 (omega (arith, size, s.1.0)) (s.1.1 ∙ ap (λ n. take n rest) size) c.apply.result c.apply.ensures.value
 
 pub overflow_mul-code : goal.overflow_mul-code
-overflow_mul-code g c = let small = (next g c).product in search rules
+overflow_mul-code g c = omega (arith, (next g c).product)
 
 pub overflow_add-code : goal.overflow_add-code
-overflow_add-code g c = let small = (next g (goal.at.overflow_add-code g c).After-apply).sum in search rules
+overflow_add-code g c = omega (arith, (next g (goal.at.overflow_add-code g c).After-apply).sum)
 
 pub overflow_mul-weight : goal.overflow_mul-weight
-overflow_mul-weight g c = let small = (next g (goal.at.overflow_mul-weight g c).After-apply).power in search rules
+overflow_mul-weight g c = omega (arith, (next g (goal.at.overflow_mul-weight g c).After-apply).power)
 
 pub loop-window-preserved : goal.loop-window-preserved
 loop-window-preserved g c =

@@ -10,7 +10,7 @@ use Rattle.rules.specs.Answers.{checked}
 use Rattle.rules.specs.Steps.{value_of}
 use Rattle.floors.specs.declared.action.Action.TheVariants.{Iterate, Mirror}
 use Rattle.floors.specs.Asking.{HasWidth, Packing, interval, packed_numbers}
-use Rattle.floors.proofs.Answering.{Acts, Window, states_below, wide_below, refuses_below, refuses_window, short_above, answers_as, reads_kept, answers_kept, reads_iterated, reads_mirrored, block_asks, answers_block}
+use Rattle.floors.proofs.Answering.{Acts, Window, told_some, states_below, wide_below, refuses_below, refuses_window, short_above, answers_as, reads_kept, answers_kept, reads_iterated, reads_mirrored, block_asks, answers_block}
 use Rattle.floors.proofs.Places.{outcome_is}
 use Rattle.floors.proofs.floor.Floor.answer.Given as given
 use Rattle.floors.proofs.floor.Floor.answer.Goals as goal
@@ -23,7 +23,7 @@ acting g c = record { top = g.met.T.Tower.is_top c.args.self.now.below; standing
 -- the window that is checked against the interval of the top
 
 found : (g : given.Over) (c : In_ok-first g) → Some (c.in_ok-first.first, c.in_ok-first.last) ≡ interval c.args.direction c.in-Some.top
-found g c = search rules
+found g c = told_some c.interval.result (c.in_ok-first.first, c.in_ok-first.last) NoInverse c.in_ok-first.ensures.value ∙ c.interval.ensures
 
 width : (g : given.Over) (c : After-interval_width g) → c.interval_width.result ≡ span c.in_ok-first.first c.in_ok-first.last
 width g c =
@@ -51,7 +51,7 @@ window g c =
 -- the interval below, shifted where the action does so before it packs
 
 starts : (g : given.Over) (c : In_ok-lo g) → Some (c.in_ok-lo.lo, c.in_ok-lo.hi) ≡ interval c.args.direction (packed_numbers c.args.self.now.action c.of-below.result.numbers)
-starts g c = search rules
+starts g c = told_some c.interval-2.result (c.in_ok-lo.lo, c.in_ok-lo.hi) NoInverse c.in_ok-lo.ensures.value ∙ c.interval-2.ensures ∙ ap (interval c.args.direction) c.packed_numbers.ensures
 
 start : (g : given.Over) (c : In_ok-lo g) → to_z w32 (of_z w32 c.in_ok-lo.lo) ≡ c.in_ok-lo.lo
 start g c = let lo : SFits w32 c.in_ok-lo.lo = search rules in to_z-of_z w32 c.in_ok-lo.lo lo
