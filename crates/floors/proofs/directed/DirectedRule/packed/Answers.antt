@@ -1,5 +1,6 @@
-use Rattle.std.proofs.Common.{◌≡◌, ℕ, ◌+◌, ◌-◌, ◌≤◌, length, take, drop, sym, refl, ap, ◌∙◌, subst, arith, w32, w64, SFits, to_z, of_z, rules}
+use Rattle.std.proofs.Common.{◌≡◌, ℕ, ◌+◌, ◌-◌, ◌≤◌, Some, IsSome, Option, length, take, drop, sym, refl, ap, ◌∙◌, subst, arith, w32, w64, SFits, to_z, of_z, rules}
 use Rattle.std.proofs.lemmas.Int.{to_z-of_z}
+use Rattle.std.proofs.Math.Facts.{sfits_widen}
 use Rattle.std.proofs.lemmas.List.{length_push}
 use Rattle.std.specs.Slice.Iter.{windows_rest, windows_size}
 use Rattle.rings.specs.Automaton.{toward}
@@ -10,7 +11,7 @@ use Rattle.rules.specs.Steps.{value_of, part}
 use Rattle.floors.proofs.Asking.{some-width, Unpacking, Under, Digits, NextDigit, usable_as, room, fits, under_block, packed_value, no_digit, window_reads, next_number, next_digits, next_rest, all_digits}
 use Rattle.floors.proofs.directed.DirectedRule.packed.Given as given
 use Rattle.floors.proofs.directed.DirectedRule.packed.Goals as goal
-use Rattle.floors.proofs.directed.DirectedRule.packed.Goals.{Start, After-cell_at-skip, After-into_iter-window-iterator, After-apply}
+use Rattle.floors.proofs.directed.DirectedRule.packed.Goals.{Start, After-cell_at, After-unwrap-skip, After-into_iter-window-iterator, After-apply}
 
 unpacking : (g : given.Over) (c : Start g) → Unpacking c.args.self.now.states (toward c.args.self.now.direction (g.R.Rule.meaning c.args.self.now.rule.now)) c.args.self.now.width c.args.block.cells c.args.lo c.args.window.now
 unpacking g c =
@@ -26,24 +27,30 @@ unpacking g c =
     }
 
 -- the windows begin where the interval does
-skip_is : (g : given.Over) (c : After-cell_at-skip g) → c.cell_at-skip.result ≡ floor_mod c.args.lo c.args.block.cells
-skip_is g c =
+cell_is : (g : given.Over) (c : After-cell_at g) → c.cell_at.result ≡ Some (floor_mod c.args.lo c.args.block.cells)
+cell_is g c =
     let lo = c.args.lo in
     let m = c.args.block.cells in
-    let wide : SFits w64 lo = search rules in
+    let wide : SFits w64 lo = sfits_widen tt c.ranges.lo in
     let offset : c.from.result ≡ lo = c.from.ensures ∙ to_z-of_z w32 lo c.ranges.lo in
-    c.cell_at-skip.ensures ∙ ap (λ z. cell_at z m) (ap (λ z. to_z w64 (of_z w64 z)) offset ∙ to_z-of_z w64 lo wide) ∙ cell_at-some lo m c.args.block.some
+    c.cell_at.ensures ∙ ap (λ z. cell_at z m) (ap (λ z. to_z w64 (of_z w64 z)) offset ∙ to_z-of_z w64 lo wide) ∙ cell_at-some lo m c.args.block.some
+
+pub unwrap-skip-requires : goal.unwrap-skip-requires
+unwrap-skip-requires g c = subst (λ (o : Option ℕ). IsSome o) (sym (cell_is g c)) refl
+
+skip_is : (g : given.Over) (c : After-unwrap-skip g) → c.unwrap-skip.result ≡ floor_mod c.args.lo c.args.block.cells
+skip_is g c = let told = sym c.unwrap-skip.ensures ∙ cell_is g (goal.at.After-unwrap-skip g c).After-cell_at in cc
 
 -- what the windows go over
 cells_are : (g : given.Over) (c : After-into_iter-window-iterator g)
-    → windows_rest c.into_iter-window-iterator.result ≡ take (c.cell_at-skip.result + c.args.block.cells - 1 + c.args.self.now.width - c.cell_at-skip.result) (drop c.cell_at-skip.result c.unpack-digits.result)
+    → windows_rest c.into_iter-window-iterator.result ≡ take (c.unwrap-skip.result + c.args.block.cells - 1 + c.args.self.now.width - c.unwrap-skip.result) (drop c.unwrap-skip.result c.unpack-digits.result)
 cells_are g c = ap windows_rest c.into_iter-window-iterator.ensures.into_iter_gives ∙ c.windows-window-items.ensures.rest
 
 under : (g : given.Over) (c : After-into_iter-window-iterator g)
     → Under c.args.self.now.states (toward c.args.self.now.direction (g.R.Rule.meaning c.args.self.now.rule.now)) c.args.self.now.width c.args.block.cells (windows_rest c.into_iter-window-iterator.result)
 under g c =
     let at = goal.at.After-into_iter-window-iterator g c in
-    under_block (unpacking g at.Start) c.unpack-digits.result c.cell_at-skip.result (skip_is g at.After-cell_at-skip) c.unpack-digits.ensures (windows_rest c.into_iter-window-iterator.result) (cells_are g c)
+    under_block (unpacking g at.Start) c.unpack-digits.result c.unwrap-skip.result (skip_is g at.After-unwrap-skip) c.unpack-digits.ensures (windows_rest c.into_iter-window-iterator.result) (cells_are g c)
 
 pub loop-window-init : goal.loop-window-init
 loop-window-init g c =
@@ -97,4 +104,4 @@ returns g c =
     let s = c.in-None.ensures.steps in
     let size = c.loop-window.invariant.1 in
     all_digits (under g at.After-into_iter-window-iterator) c.loop-window.invariant.3 (windows_rest c.loop-window.window-iterator) c.loop-window.invariant.2 (omega (arith, size, s.1.0)) ∙
-    packed_value (unpacking g at.Start) c.unpack-digits.result c.cell_at-skip.result (skip_is g at.After-cell_at-skip) c.unpack-digits.ensures (windows_rest c.into_iter-window-iterator.result) (cells_are g at.After-into_iter-window-iterator)
+    packed_value (unpacking g at.Start) c.unpack-digits.result c.unwrap-skip.result (skip_is g at.After-unwrap-skip) c.unpack-digits.ensures (windows_rest c.into_iter-window-iterator.result) (cells_are g at.After-into_iter-window-iterator)
