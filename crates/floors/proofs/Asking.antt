@@ -151,47 +151,25 @@ module _ {q : ℕ} {o : Option Local} {w t : ℕ} {ws : List ℕ} (s : Stepping 
         let step = multiple_more (n - 1) t (w - 1) (omega arith) in
         omega (arith, step.0, step.1, s.short, (readable_iterated q o w t ws s).len)
 
-    size : length (take (cells - 0) row) ≡ cells
-    size = let e : cells - 0 ≡ cells = omega arith in ap (λ k. length (take k row)) e ∙ length-take-le cells row inside
+    pub size : length (take cells row) ≡ cells
+    size = length-take-le cells row inside
 
-    pub wide : w ≤ length (take (cells - 0) row)
+    pub wide : w ≤ length (take cells row)
     wide = omega (arith, size, (multiple_more (n - 1) t (w - 1) (omega arith)).0, some-width o w s.width)
 
-    is_now : take (cells - 0) row ≡ power (map_list_windows (value_of o) w) (t - n) ws
-    is_now = let e : cells - 0 ≡ n * (w - 1) + 1 = omega (arith, same) in ap (λ k. take k row) e ∙ now
+    is_now : take cells row ≡ power (map_list_windows (value_of o) w) (t - n) ws
+    is_now = ap (λ k. take k row) same ∙ now
 
-    pub codes : Codes q (take (cells - 0) row)
+    pub codes : Codes q (take cells row)
     codes = subst (Codes q) (sym is_now) (codes_rows q o w s.usable s.width (t - n) ws (readable_iterated q o w t ws s).codes)
 
-    pub next_row : (written rest : List ℕ) → length written ≡ length (take (cells - 0) row) → take (length (take (cells - 0) row) + 1 - w) written ≡ map_list_windows (value_of o) w (take (cells - 0) row) → RowLeft (n - 1) (written ++ rest)
+    pub next_row : (written rest : List ℕ) → length written ≡ length (take cells row) → take (length (take cells row) + 1 - w) written ≡ map_list_windows (value_of o) w (take cells row) → RowLeft (n - 1) (written ++ rest)
     next_row written rest keeps e =
         let step = (multiple_more (n - 1) t (w - 1) (omega arith)).0 in
-        let count : (n - 1) * (w - 1) + 1 ≡ length (take (cells - 0) row) + 1 - w = omega (arith, size, step, some-width o w s.width) in
+        let count : (n - 1) * (w - 1) + 1 ≡ length (take cells row) + 1 - w = omega (arith, size, step, some-width o w s.width) in
         let turn : t - (n - 1) ≡ t - n + 1 = omega arith in
         take-append-le ((n - 1) * (w - 1) + 1) written rest (omega (arith, keeps, size, step)) ∙ ap (λ k. take k written) count ∙ e ∙ ap (map_list_windows (value_of o) w) is_now ∙
         sym (ap (λ k. power (map_list_windows (value_of o) w) k ws) turn ∙ power_more (map_list_windows (value_of o) w) (t - n) ws)
-
--- a mirror
-
--- the windows seen in a mirror, and the code there
-pub width-mirrored : (o : Option Local) (w : ℕ) → HasWidth o w → HasWidth (option_map mirror_local o) w
-width-mirrored None w h = absurd h
-width-mirrored (Some l) w h = h ∙ sym (width-mirror l)
-
-pub value-mirrored : (o : Option Local) (ws : List ℕ) → value_of o (reverse ws) ≡ value_of (option_map mirror_local o) ws
-value-mirrored None ws = refl
-value-mirrored (Some l) ws = refl
-
--- a window that is reversed after it was checked
-pub readable-reverse : (q w : ℕ) (ws : List ℕ) → Readable q w ws → Readable q w (reverse ws)
-readable-reverse q w ws r = record {
-  len = length-reverse ws ∙ r.len;
-  codes = λ k l. let h : k < length ws = omega (arith, length-reverse ws) in rw (get_or-reverse ws k 0 h) (r.codes (length ws - 1 - k) (omega arith));
-}
-
--- the window, copied to the front of a row that is then reversed
-pub reversed_front : (w : ℕ) (ws row turned : List ℕ) → length ws ≡ w → take (length ws) row ≡ ws → turned ≡ reverse (take (w - 0) row) → turned ≡ reverse ws
-reversed_front w ws row turned len front e = let n : w - 0 ≡ length ws = omega arith in e ∙ ap reverse (ap (λ k. take k row) n ∙ front)
 
 -- blocks
 

@@ -62,7 +62,7 @@ impl<R: Rule> DirectedRule<'_, R> {
     {
         let mut row = row_of(window);
         for left in (0..times as usize).rev() {
-            self.advance(&mut row[0..(left + 1) * (self.width - 1) + 1]);
+            self.advance(&mut row[..(left + 1) * (self.width - 1) + 1]);
         }
         row[0]
     }
@@ -73,7 +73,7 @@ impl<R: Rule> DirectedRule<'_, R> {
         ensures { result ≡ value_of (option_map mirror_local (toward self.now.direction (R.Rule.meaning self.now.rule.now))) window.now }
     {
         let mut row = row_of(window);
-        let turned = &mut row[0..window.len()];
+        let turned = &mut row[..window.len()];
         turned.reverse();
         self.apply(turned)
     }
@@ -102,7 +102,7 @@ fn row_of(window: &[u32]) -> [u32; MAX_WIDTH]
     ensures { take (length window.now) result ≡ window.now }
 {
     let mut row = [0; MAX_WIDTH];
-    row[0..window.len()].copy_from_slice(window);
+    row[..window.len()].copy_from_slice(window);
     row
 }
 

@@ -1,6 +1,6 @@
-use Rattle.std.proofs.Common.{rules}
+use Rattle.std.proofs.Common.{sym, rules}
 use Rattle.rings.specs.Automaton.{toward}
-use Rattle.floors.proofs.Asking.{Stepping, usable_as, first_row, last_row, inside, wide, codes, next_row}
+use Rattle.floors.proofs.Asking.{Stepping, usable_as, first_row, last_row, inside, size, wide, codes, next_row}
 use Rattle.floors.proofs.directed.DirectedRule.iterated.Given as given
 use Rattle.floors.proofs.directed.DirectedRule.iterated.Goals as goal
 use Rattle.floors.proofs.directed.DirectedRule.iterated.Goals.{After-row_of-row}
@@ -17,6 +17,9 @@ pub slice_bounds-row-end : goal.slice_bounds-row-end
 slice_bounds-row-end g c =
     let ends = inside (stepping g (goal.at.slice_bounds-row-end g c).After-row_of-row) c.loop-left.left c.loop-left.row c.loop-left-test.true c.loop-left.auto.left c.type_inv.row c.loop-left.invariant in
     search rules
+
+pub slice_bounds-advance-end : goal.slice_bounds-advance-end
+slice_bounds-advance-end g c = sym (size (stepping g (goal.at.slice_bounds-advance-end g c).After-row_of-row) c.loop-left.left c.loop-left.row c.loop-left-test.true c.loop-left.auto.left c.loop-left-test.array_long c.loop-left.invariant)
 
 pub advance-requires-clause-fits : goal.advance-requires-clause-fits
 advance-requires-clause-fits g c =
