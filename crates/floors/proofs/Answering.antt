@@ -1,6 +1,6 @@
 -- Lemmas on what the top of a floor answers.
-use Rattle.std.proofs.Common.{◌≡◌, ℕ, ◌+◌, ◌-◌, ◌*◌, ◌^◌, ◌≤◌, Bool, true, false, cond, ◌&&◌, ◌⊎◌, List, length, ℤ, neg_ℤ, ◌≤ℤ◌, Some, None, Ok, Err, Option, Result, sym, refl, ap, ◌∙◌, subst, ap₂, inl, inr, arith}
-use Rattle.std.proofs.lemmas.Bool.{leb-true, and_parts, cond-true}
+use Rattle.std.proofs.Common.{◌≡◌, ℕ, ◌+◌, ◌-◌, ◌*◌, ◌^◌, ◌≤◌, true, ◌&&◌, ◌⊎◌, List, length, ℤ, neg_ℤ, ◌≤ℤ◌, Some, None, Ok, Err, Option, Result, sym, refl, ap, ◌∙◌, subst, ap₂, inl, inr, arith}
+use Rattle.std.proofs.lemmas.Bool.{cond-true}
 use Rattle.std.proofs.lemmas.Int.{ints}
 use Rattle.std.specs.Option.{option_map, ok_or}
 use Rattle.rings.specs.declared.Direction.{Direction}
@@ -22,11 +22,10 @@ use Rattle.towers.specs.declared.numbers.Numbers.{Numbers}
 use Rattle.towers.specs.Towers.{Tower}
 use Rattle.towers.specs.Numbers.{numbers_of, Standing}
 use Rattle.towers.specs.Standing.{top_lawful}
-use Rattle.floors.specs.Actions.{act_on, shift_ends, act_numbers, reduced_block, in_range, fits, reduces, within_limits, floor_or}
+use Rattle.floors.specs.Actions.{act_on, shift_ends, act_numbers, reduced_block, in_range, fits, floor_or}
 use Rattle.floors.specs.Acting.{acted}
 use Rattle.floors.specs.Asking.{HasWidth, Packing, interval, packed_numbers, block_of}
 use Rattle.floors.specs.ActingLemmas.{ends_mapped, acted_numbers, standing_acted}
-use Rattle.floors.proofs.Asking.{reads}
 use Rattle.floors.proofs.Places.{outcome_is}
 
 -- the local function that an action makes

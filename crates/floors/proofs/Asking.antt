@@ -1,8 +1,8 @@
 -- Lemmas on the local function of a direction, applied to the windows that a floor makes.
-use Rattle.std.proofs.Common.{◌≡◌, ℕ, zero, suc, ◌+◌, ◌-◌, ◌*◌, ◌^◌, ◌<◌, ◌≤◌, List, ◌++◌, reverse, length, get_or, take, drop, set, ℤ, Some, None, Option, sym, refl, ap, ◌∙◌, subst, ap₂, mul-le-mul_right, add-mul, mul-le-mul, add-one, arith, take-add}
+use Rattle.std.proofs.Common.{◌≡◌, ℕ, zero, suc, ◌+◌, ◌-◌, ◌*◌, ◌^◌, ◌<◌, ◌≤◌, List, ◌++◌, length, get_or, take, drop, set, ℤ, Some, None, Option, sym, refl, ap, ◌∙◌, subst, ap₂, mul-le-mul_right, add-mul, mul-le-mul, add-one, arith, take-add}
 use lib.Arith.{digits_div, digits_mod}
 use native.Mathlib.Nat.{pow-zero, pow-le-pow_right}
-use Rattle.std.proofs.lemmas.List.{take-append-le, length-take, length-drop, length-take-le, get_or-take, get_or-drop, drop-drop, drop-set-lt, drop-take, take-take, length-reverse, get_or-reverse}
+use Rattle.std.proofs.lemmas.List.{take-append-le, length-take, length-drop, length-take-le, get_or-take, get_or-drop, drop-drop, drop-set-lt, drop-take, take-take}
 use Rattle.std.specs.Option.{option_map}
 use Rattle.rings.specs.declared.Direction.{Direction}
 use Rattle.rings.specs.Integers.{floor_mod}
@@ -11,21 +11,16 @@ use Rattle.rings.specs.Ring.{Codes}
 use Rattle.rings.specs.Local.{Local}
 use Rattle.rings.specs.Automaton.{Automaton, Lawful, toward}
 use Rattle.rings.specs.Packing.{digit, number, unblocks}
-use Rattle.rings.specs.Transformations.{map_list_windows, iterate_value, pack_value, iterate_local, mirror_local}
+use Rattle.rings.specs.Transformations.{map_list_windows, iterate_value, pack_value, iterate_local}
 use Rattle.rings.proofs.Line.{length-tabulate, slice_index-tabulate, is_tabulate}
 use Rattle.rings.proofs.Local.{power_out}
 use Rattle.rings.proofs.Packing.{number_same, number_lt, length-unblocks, slice_index-unblocks, ring-unblocks}
-use Rattle.rings.proofs.Transformations.{width-iterate, width-mirror}
-use Rattle.rules.specs.declared.fault.RuleFault.{RuleFault}
-use Rattle.rules.specs.Answers.{answer, checked}
+use Rattle.rings.proofs.Transformations.{width-iterate}
 use Rattle.rules.specs.Steps.{value_of, Reads, part}
-use Rattle.rules.specs.Windows.{Readable, readable, checked_readable, checked_refused}
+use Rattle.rules.specs.Windows.{Readable}
 use Rattle.rules.specs.TablesLemmas.{pow_more}
-use Rattle.rules.proofs.Maps.{Usable, usable, answer-reads}
+use Rattle.rules.proofs.Maps.{Usable, usable}
 use Rattle.floors.specs.Asking.{HasWidth, Packing}
-use Rattle.towers.specs.Numbers.{Standing}
-use Rattle.towers.specs.Towers.{Tower}
-use Rattle.towers.specs.Standing.{top_lawful}
 
 -- the local function of a direction, which may be missing
 

@@ -1,4 +1,4 @@
-use Rattle.std.proofs.Common.{◌≡◌, ℕ, ◌+◌, ◌-◌, ◌≤◌, Some, IsSome, Option, length, take, drop, sym, refl, ap, ◌∙◌, subst, arith, w32, w64, SFits, to_z, of_z, rules}
+use Rattle.std.proofs.Common.{◌≡◌, ℕ, ◌+◌, ◌-◌, ◌≤◌, Some, IsSome, Option, length, take, drop, sym, refl, ap, ◌∙◌, subst, arith, w32, w64, SFits, to_z, of_z}
 use Rattle.std.proofs.lemmas.Int.{to_z-of_z}
 use Rattle.std.proofs.Math.Facts.{sfits_widen}
 use Rattle.std.proofs.lemmas.List.{length_push}
@@ -8,7 +8,7 @@ use Rattle.rings.specs.Integers.{floor_mod}
 use Rattle.rings.specs.Ring.{cell_at}
 use Rattle.rings.proofs.Ring.{cell_at-some}
 use Rattle.rules.specs.Steps.{value_of, part}
-use Rattle.floors.proofs.Asking.{some-width, Unpacking, Under, Digits, NextDigit, usable_as, room, fits, under_block, packed_value, no_digit, window_reads, next_number, next_digits, next_rest, all_digits}
+use Rattle.floors.proofs.Asking.{some-width, Unpacking, Under, NextDigit, usable_as, under_block, packed_value, no_digit, window_reads, next_number, next_digits, next_rest, all_digits}
 use Rattle.floors.proofs.directed.DirectedRule.packed.Given as given
 use Rattle.floors.proofs.directed.DirectedRule.packed.Goals as goal
 use Rattle.floors.proofs.directed.DirectedRule.packed.Goals.{Start, After-cell_at, After-unwrap-skip, After-into_iter-window-iterator, After-apply}

@@ -9,7 +9,7 @@ use Rattle.rules.specs.declared.fault.RuleFault.TheVariants.{NoInverse}
 use Rattle.rules.specs.Answers.{checked}
 use Rattle.rules.specs.Steps.{value_of}
 use Rattle.floors.specs.declared.action.Action.TheVariants.{Iterate, Mirror}
-use Rattle.floors.specs.Asking.{HasWidth, Packing, interval, packed_numbers}
+use Rattle.floors.specs.Asking.{HasWidth, interval, packed_numbers}
 use Rattle.floors.proofs.Answering.{Acts, Window, told_some, states_below, wide_below, refuses_below, refuses_window, short_above, answers_as, reads_kept, answers_kept, reads_iterated, reads_mirrored, block_asks, answers_block}
 use Rattle.floors.proofs.Places.{outcome_is}
 use Rattle.floors.proofs.floor.Floor.answer.Given as given

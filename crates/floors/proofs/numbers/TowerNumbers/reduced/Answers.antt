@@ -1,5 +1,4 @@
 use Rattle.std.proofs.Common.{sym, ap, ◌∙◌, subst}
-use Rattle.floors.specs.Actions.{within_limits}
 use Rattle.floors.specs.Acting.{Workable, limited}
 use Rattle.floors.specs.ActingLemmas.{limited_is, workable_shifted, reduced_not}
 use Rattle.floors.proofs.numbers.TowerNumbers.reduced.Goals as goal

@@ -1,5 +1,5 @@
-use Rattle.std.proofs.Common.{◌∙◌, ap, arith, rules, w32, SFits, to_z, of_z, ◌+ℤ◌}
-use Rattle.std.proofs.lemmas.Int.{ints, to_z-of_z}
+use Rattle.std.proofs.Common.{arith, rules, w32}
+use Rattle.std.proofs.lemmas.Int.{to_z-of_z}
 use Rattle.floors.proofs.Arithmetic.{fits_small, negation_is, sum_fits, sum_is}
 use Rattle.floors.proofs.numbers.TowerNumbers.shifted.Goals as goal
 
