@@ -8,7 +8,7 @@ use Rattle.floors.specs.declared.action.Action.{Action}
 use Rattle.towers.specs.declared.fault.TowerFault.{TowerFault}
 use Rattle.towers.specs.declared.fault.TowerFault.TheVariants.{Rule}
 use Rattle.towers.specs.declared.numbers.Numbers.{Numbers}
-use Rattle.floors.specs.Limits.{max_block, max_steps, max_drift}
+use Rattle.towers.specs.Limits.{max_block, max_steps, max_drift}
 use Rattle.floors.specs.Actions.{act_numbers, in_range, fits, within_limits, numbered_action}
 
 -- the numbers of a tower

@@ -15,7 +15,7 @@ use Rattle.towers.specs.declared.numbers.Numbers.{Numbers}
 use Rattle.towers.specs.Towers.{Tower, Stands}
 use Rattle.floors.specs.Transformed.{iterate_tower, shift_tower, mirror_tower, pack_tower}
 use Rattle.towers.specs.Numbers.{numbers_of, Standing}
-use Rattle.floors.specs.Limits.{max_block, max_steps, max_drift}
+use Rattle.towers.specs.Limits.{max_block, max_steps, max_drift}
 use Rattle.floors.specs.Actions.{act_on, iterate_ends, shift_ends, mirror_ends, pack_ends, iterate_numbers, shift_numbers, mirror_numbers, pack_numbers, reduced_block, act_numbers, in_range, inverse_fits, intervals_fit, within_limits, reduces, fits, floor_or, floor_numbers}
 use Rattle.floors.specs.Acting.{LawfulEnds, LawfulInverse, Workable, limited, acted}
 use Rattle.floors.specs.TransformedLemmas.{stands_iterate, stands_shift, stands_mirror, stands_pack, stands_reduce}

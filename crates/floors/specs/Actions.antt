@@ -8,7 +8,8 @@ use Rattle.floors.specs.declared.action.Action.{Action}
 use Rattle.floors.specs.declared.action.Action.TheVariants.{Unchanged, Pack, Iterate, Shift, Mirror, Reduce}
 use Rattle.towers.specs.declared.numbers.Numbers.{Numbers}
 use Rattle.towers.specs.Towers.{Tower, signed}
-use Rattle.floors.specs.Limits.{max_argument, min_shift, max_block, max_steps, max_drift}
+use Rattle.towers.specs.Limits.{max_block, max_steps, max_drift}
+use Rattle.floors.specs.Limits.{max_argument, min_shift}
 use Rattle.floors.specs.Transformed.{iterate_tower, shift_tower, mirror_tower, pack_tower, reduce_tower}
 use Rattle.towers.specs.Numbers.{numbers_of}
 

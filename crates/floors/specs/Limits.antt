@@ -1,4 +1,4 @@
--- The limits of floors, and of the towers that they make.
+-- The limits of actions.
 use Rattle.std.specs.Prelude.{ℕ, ◌*◌, ℤ, negsuc}
 use Rattle.rings.specs.Limits.{max_width}
 
@@ -13,18 +13,6 @@ min_shift = negsuc 15
 -- The most cells by which numbers are shifted: reduction takes an end of an interval to 0.
 abbrev pub max_turn : ℕ
 max_turn = 128
-
--- The most bottom cells in a top cell.
-abbrev pub max_block : ℕ
-max_block = 65536
-
--- The most bottom steps in a top step.
-abbrev pub max_steps : ℕ
-max_steps = 65536
-
--- The most cells by which a top step turns the bottom ring.
-abbrev pub max_drift : ℕ
-max_drift = 16777216
 
 -- The most digits of a window.
 abbrev pub max_digits : ℕ

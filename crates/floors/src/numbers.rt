@@ -10,7 +10,8 @@ ghost use Rattle.floors.specs.Actions.{iterate_ends, shift_ends, mirror_ends, pa
 ghost use Rattle.floors.specs.Acting.{LawfulEnds, Workable, limited, acted};
 ghost use Rattle.floors.specs.Asking.{block_of};
 ghost use Rattle.floors.specs.Floors.{floor_fault};
-ghost use Rattle.floors.specs.Limits.{max_argument, max_turn, max_block};
+ghost use Rattle.towers.specs.Limits.{max_block};
+ghost use Rattle.floors.specs.Limits.{max_argument, max_turn};
 
 use crate::Action;
 use crate::action::MAX_ARGUMENT;

@@ -1,4 +1,5 @@
 pub mod Towers
+pub mod Limits
 pub mod Numbers
 pub mod Faults
 pub mod Kinds

@@ -1,8 +1,9 @@
 -- The numbers of a tower, and its laws with their bounds.
-use Rattle.std.specs.Prelude.{ℕ, ◌≤◌, unsigned_abs}
+use Rattle.std.specs.Prelude.{◌≤◌, unsigned_abs}
 use Rattle.rings.specs.Automaton.{Bounded}
 use Rattle.rules.specs.Answers.{ends}
 use Rattle.towers.specs.declared.numbers.Numbers.{Numbers}
+use Rattle.towers.specs.Limits.{max_block, max_steps, max_drift}
 use Rattle.towers.specs.Towers.{Tower, Stands}
 
 -- All the numbers that a tower tells.
@@ -18,16 +19,6 @@ numbers_of t = record {
   mirrored = t.mirrored;
   bottom = t.bottom.states;
 }
-
--- The most bottom cells in a top cell, the most bottom steps in a top step, and the most cells that a top step turns the ring by, either way.
-abbrev pub max_block : ℕ
-max_block = 65536
-
-abbrev pub max_steps : ℕ
-max_steps = 65536
-
-abbrev pub max_drift : ℕ
-max_drift = 16777216
 
 -- The laws of a tower, and the bounds of its numbers.
 pub record Standing (t : Tower) : Type 0 where

@@ -1,5 +1,4 @@
-use Rattle.std.proofs.Common.{◌+◌, refl, ap, ◌∙◌, arith}
-use Rattle.std.proofs.lemmas.List.{take_all}
+use Rattle.std.proofs.Common.{◌+◌, refl, arith}
 use Rattle.rules.specs.Tables.{entry_index}
 use Rattle.rules.specs.TablesLemmas.{entry_index_more, entry_index_small}
 use Rattle.rules.proofs.table.index_of.Goals as goal
@@ -22,9 +21,6 @@ overflow_add-index c =
 
 pub loop-code-preserved : goal.loop-code-preserved
 loop-code-preserved c = entry_index_more c.args.states c.args.window.now c.loop-code.code-index c.loop-code.index c.loop-code-test.true c.loop-code.invariant
-
-pub returns : goal.returns
-returns c = c.loop-code.invariant ∙ ap (entry_index c.args.states) (take_all _ _ c.loop-code-test.false)
 
 pub loop-code-init : goal.loop-code-init
 unfolding entry_index

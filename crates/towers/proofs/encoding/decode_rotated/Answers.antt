@@ -45,9 +45,6 @@ module _ (g : given.Over) (c : In_ok-check_cells g) where
   fits : length c.args.ring.now * c.numbers-numbers.result.block ≤ length c.args.buffer.now
   fits = omega (arith, size, good.fits)
 
-pub overflow_mul-cells : goal.overflow_mul-cells
-overflow_mul-cells g c = let h = fits g (goal.at.overflow_mul-cells g c).In_ok-check_cells in search rules
-
 pub slice_bounds-cells-end : goal.slice_bounds-cells-end
 slice_bounds-cells-end g c = let h = fits g (goal.at.slice_bounds-cells-end g c).In_ok-check_cells in search rules
 

@@ -1,15 +1,11 @@
-use Rattle.std.proofs.Common.{◌≡◌, length, sym, ap, ◌∙◌, subst, refl, arith, w64, to_z, of_z}
+use Rattle.std.proofs.Common.{◌≡◌, length, sym, ap, ◌∙◌, arith, w64, to_z, of_z}
 use Rattle.std.proofs.lemmas.Int.{to_z-of_z}
-use Rattle.std.specs.Option.{IsSome}
 use Rattle.rings.specs.Integers.{floor_mod}
 use Rattle.rings.specs.Ring.{cell_at}
 use Rattle.rings.proofs.Integers.{floor_mod_lt}
-use Rattle.rings.proofs.Ring.{cell_at-some, cell_at-is}
+use Rattle.rings.proofs.Ring.{cell_at-is}
 use Rattle.towers.proofs.Calls.{rotated_is}
 use Rattle.towers.proofs.encoding.rotate_cells.Goals as goal
-
-pub unwrap-requires : goal.unwrap-requires
-unwrap-requires c = subst IsSome (sym (c.cell_at.ensures ∙ cell_at-some (to_z w64 (of_z w64 c.args.rotation)) (length c.args.ring.now) c.requires)) refl
 
 pub rotate_left-requires : goal.rotate_left-requires
 rotate_left-requires c =

@@ -1,17 +1,8 @@
-use Rattle.std.proofs.Common.{◌≡◌, length, get_or, replicate, sym, ap, ◌∙◌, subst, refl, arith}
-use Rattle.std.proofs.lemmas.List.{get_or-replicate}
+use Rattle.std.proofs.Common.{◌≡◌, length, sym, ◌∙◌, subst, refl, arith}
 use Rattle.std.specs.Result.{IsOk}
-use Rattle.towers.proofs.Encodings.{Written, written_none, written_all}
+use Rattle.towers.proofs.Encodings.{Written, written_all}
 use Rattle.towers.proofs.Calls.{place_in, place_is_told, sum_small, written_next}
 use Rattle.towers.proofs.encoding.write_encoded.Goals as goal
-
-pub loop-j-init : goal.loop-j-init
-loop-j-init g c =
-    let t = g.T.Tower.tower c.args.tower.now in
-    let n = length c.args.cells.now in
-    let zeros : c.fill.new.self ≡ replicate n 0 = c.fill.ensures.after (λ y h. h) in
-    written_none t (g.met.T.Tower.stands c.args.tower.now).laws n c.args.ring.now c.requires.fitting c.fill.new.self c.fill.ensures.len
-    (λ i h. ap (λ l. get_or l i 0) zeros ∙ get_or-replicate n i 0 0 h)
 
 pub unwrap-place-requires : goal.unwrap-place-requires
 unwrap-place-requires g c =

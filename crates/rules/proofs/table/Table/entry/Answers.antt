@@ -1,9 +1,6 @@
 use Rattle.std.proofs.Common.{arith}
-use Rattle.rules.specs.TablesLemmas.{may_index, index_small, entry_stored}
+use Rattle.rules.specs.TablesLemmas.{index_small, entry_stored}
 use Rattle.rules.proofs.table.Table.entry.Goals as goal
-
-pub index_of-requires : goal.index_of-requires
-index_of-requires c = let t = c.args.self.now in may_index t.shape t.store c.args.window.now t.fits c.requires
 
 pub offset_bounds-self-index_of : goal.offset_bounds-self-index_of
 offset_bounds-self-index_of c =
