@@ -1,5 +1,5 @@
 pub mod Refusals
-pub mod Steps
+pub mod Moving
 pub mod Shown
 pub mod Making
 pub mod Reading

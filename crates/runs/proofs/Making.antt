@@ -18,7 +18,7 @@ use Rattle.runs.specs.declared.fault.RunFault.TheVariants.{Tower}
 use Rattle.runs.specs.Calls.{made}
 use Rattle.runs.specs.Laws.{Shows}
 use Rattle.runs.specs.Views.{state_of, Begins, Makes}
-use Rattle.runs.proofs.Steps.{state_is, take-written, length-written}
+use Rattle.runs.proofs.Moving.{state_is, take-written, length-written}
 
 -- the encoded ring in the part of a buffer that may be used
 

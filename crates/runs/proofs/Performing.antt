@@ -1,13 +1,10 @@
 -- Lemmas on lists of calls: what is left of a list gives what the whole list gives.
 use Rattle.std.proofs.Common.{◌≡◌, ℕ, ◌+◌, ◌<◌, ◌≤◌, List, length, get_or, drop, Some, None, Option, sym, refl, ap, ◌∙◌, ap₂}
 use Rattle.std.proofs.lemmas.List.{at_drop_more, at_drop_all}
-use Rattle.std.specs.Option.{option_map, option_or}
-use Rattle.std.specs.Result.{result_err}
-use Rattle.rings.specs.Refusals.{outcome}
+use Rattle.std.specs.Option.{option_map, option_or, unwrap_or}
 use Rattle.towers.specs.Towers.{Tower}
 use Rattle.runs.specs.declared.Call.{Call}
 use Rattle.runs.specs.declared.RefusedCall.{RefusedCall}
-use Rattle.runs.specs.declared.fault.RunFault.{RunFault}
 use Rattle.runs.specs.States.{State}
 use Rattle.runs.specs.Calls.{call_fault, called, called_third, performed, performed_third, refused_at, first_refused}
 
@@ -19,9 +16,10 @@ pub option_or_none : {X : Type 0} (o : Option X) → option_or o None ≡ o
 option_or_none None = refl
 option_or_none (Some x) = refl
 
-pub err-outcome : {F : Type 0} (o : Option F) → result_err (outcome o) ≡ o
-err-outcome None = refl
-err-outcome (Some f) = refl
+-- what a first value put in makes of an option
+pub inserted : {X : Type 0} (o : Option X) (x : X) → Some (unwrap_or o x) ≡ option_or o (Some x)
+inserted None x = refl
+inserted (Some y) x = refl
 
 -- one call more
 
@@ -39,14 +37,15 @@ module _ (t u : Tower) (same : u ≡ t) (calls : List Call) (i : ℕ) (d : Call)
       at_drop_more (λ l. performed_third t l s third) calls i d h
       ∙ ap₂ (performed_third t (drop (i + 1) calls)) next_state (sym (e ∙ ap (λ x. called_third x (get_or calls i d) s third) same))
 
-  pub first_refused_more : (room now_room : ℕ) → now_room ≡ room → (before after_refused : Option RefusedCall) (fault : Option RunFault) → fault ≡ call_fault u (get_or calls i d) s now_room → after_refused ≡ option_or before (option_map (refused_at i) fault)
+  pub first_refused_more : (room now_room : ℕ) → now_room ≡ room → (before after_refused : Option RefusedCall) → after_refused ≡ option_or before (option_map (refused_at i) (call_fault u (get_or calls i d) s now_room))
       → option_or before (first_refused t i (drop i calls) s room) ≡ option_or after_refused (first_refused t (i + 1) (drop (i + 1) calls) after_call room)
   unfolding first_refused
-  first_refused_more room now_room er before after_refused fault e f =
-      let told : option_map (refused_at i) (call_fault t (get_or calls i d) s room) ≡ option_map (refused_at i) fault = ap (option_map (refused_at i)) (sym (e ∙ ap₂ (λ x n. call_fault x (get_or calls i d) s n) same er)) in
-      ap (option_or before) (at_drop_more (λ l. first_refused t i l s room) calls i d h ∙ ap₂ (λ o x. option_or o (first_refused t (i + 1) (drop (i + 1) calls) x room)) told next_state)
-      ∙ sym (option_or_assoc before (option_map (refused_at i) fault) (first_refused t (i + 1) (drop (i + 1) calls) after_call room))
-      ∙ ap (λ o. option_or o (first_refused t (i + 1) (drop (i + 1) calls) after_call room)) (sym f)
+  first_refused_more room now_room er before after_refused told =
+      let next = first_refused t (i + 1) (drop (i + 1) calls) after_call room in
+      let fault : call_fault u (get_or calls i d) s now_room ≡ call_fault t (get_or calls i d) s room = ap₂ (λ x n. call_fault x (get_or calls i d) s n) same er in
+      ap (option_or before) (at_drop_more (λ l. first_refused t i l s room) calls i d h ∙ ap (λ x. option_or (option_map (refused_at i) (call_fault t (get_or calls i d) s room)) (first_refused t (i + 1) (drop (i + 1) calls) x room)) next_state)
+      ∙ sym (option_or_assoc before (option_map (refused_at i) (call_fault t (get_or calls i d) s room)) next)
+      ∙ ap (λ o. option_or o next) (sym (told ∙ ap (λ o. option_or before (option_map (refused_at i) o)) fault))
 
 -- no call more
 

@@ -19,7 +19,7 @@ use Rattle.runs.specs.States.{State, held}
 use Rattle.runs.specs.Calls.{rule_fault, refused_if, stray_fault, present_fault, read_fault, reading, read_buffer}
 use Rattle.runs.specs.Laws.{Shows, bottom_after, ReadLaw}
 use Rattle.runs.proofs.Refusals.{roomy, not_short}
-use Rattle.runs.proofs.Steps.{length-held}
+use Rattle.runs.proofs.Moving.{length-held}
 use Rattle.runs.proofs.Shown.{call_fault-shown}
 
 -- what is read of a run that shows c is what the bottom reaches

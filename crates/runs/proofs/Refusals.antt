@@ -5,6 +5,7 @@ use Rattle.rings.specs.declared.Direction.{Direction}
 use Rattle.rings.specs.Ring.{Codes, first_stray, IsFirstStray}
 use Rattle.rings.specs.Automaton.{Automaton, toward, toward_steps}
 use Rattle.rings.proofs.Ring.{is_first_stray, first_stray-codes}
+use Rattle.runs.specs.Limits.{max_count, max_steps}
 use Rattle.runs.specs.States.{State, held}
 use Rattle.runs.specs.Calls.{stray_fault, is_short, move_fault, present_fault}
 
@@ -29,8 +30,8 @@ stray_none q c = by (first_stray q c) (is_first_stray q c) where
 pub record Movable (d : Direction) (a : Automaton) (n : ℕ) (s : State) : Type 0 where
   pub goes : is_some (toward d a) ≡ true
   pub room : Roomy s
-  pub few : n ≤ 65536
-  pub near : nat_abs (s.steps +ℤ toward_steps d n) ≤ 1000000000
+  pub few : n ≤ max_count
+  pub near : nat_abs (s.steps +ℤ toward_steps d n) ≤ max_steps
   pub codes : Codes a.states (held s)
 
 pub movable : (d : Direction) (a : Automaton) (n : ℕ) (s : State) → move_fault d a n s ≡ None → Movable d a n s

@@ -21,7 +21,7 @@ use Rattle.runs.specs.States.{State, held, holding, moved}
 use Rattle.runs.specs.Calls.{rule_fault, refused_if, stray_fault, is_too_far, move_fault, tried, call_fault, called, performed, refused_at, first_refused}
 use Rattle.runs.specs.Laws.{Shows, limit_fault, accepted_steps, next_count, count_after, accepted, last_of, last_step, limit_refused, has_inverse, shown, MoveLaw, PerformLaw}
 use Rattle.runs.proofs.Refusals.{Roomy, not_short}
-use Rattle.runs.proofs.Steps.{goes_always, goes-toward, no_steps, held_moved, cells-moved, steps-moved, roomy-moved, holding_twice}
+use Rattle.runs.proofs.Moving.{goes_always, goes-toward, no_steps, held_moved, cells-moved, steps-moved, roomy-moved, holding_twice}
 
 -- steps that an automaton can go
 

@@ -27,7 +27,7 @@ use Rattle.runs.specs.States.{State, holder}
 use Rattle.runs.specs.Calls.{rule_fault, refused_if, reading, read_buffer, called, called_third, performed_third, made}
 use Rattle.runs.specs.Laws.{Shows, limit_fault, limit_refused, shown, Performs, last_step, accepted, has_inverse, bottom_after, final_count, PerformLaw, ReadLaw, SimulatesRun, ExactInverse}
 use Rattle.runs.specs.Simulations.{usable_room, simulate_fault}
-use Rattle.runs.proofs.Steps.{written_twice, length-written}
+use Rattle.runs.proofs.Moving.{written_twice, length-written}
 use Rattle.runs.proofs.Shown.{Stage, stage_first, stage_called, call_fault-shown}
 use Rattle.runs.proofs.Performing.{option_or_none}
 use Rattle.runs.proofs.Reading.{reading-shown}

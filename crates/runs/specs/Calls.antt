@@ -8,6 +8,7 @@ use Rattle.rings.specs.Automaton.{Automaton, toward, toward_steps}
 use Rattle.rings.specs.Refusals.{unless_refused}
 use Rattle.rules.specs.declared.fault.RuleFault.{RuleFault}
 use Rattle.rules.specs.declared.fault.RuleFault.TheVariants.{StrayCode, ShortBuffer, NoInverse}
+use Rattle.rules.specs.Maps as Maps
 use Rattle.rules.specs.Maps.{written_over}
 use Rattle.towers.specs.declared.fault.TowerFault.TheVariants.{Rule}
 use Rattle.towers.specs.Towers.{Tower as Meaning}
@@ -17,6 +18,7 @@ use Rattle.runs.specs.declared.Call.TheVariants.{Advance, Back, Read, Present, T
 use Rattle.runs.specs.declared.RefusedCall.{RefusedCall}
 use Rattle.runs.specs.declared.fault.RunFault.{RunFault}
 use Rattle.runs.specs.declared.fault.RunFault.TheVariants.{Tower, TooFar}
+use Rattle.runs.specs.Limits.{max_count, max_steps}
 use Rattle.runs.specs.States.{State, held, moved}
 
 -- refusals and outcomes
@@ -31,8 +33,7 @@ refused_if b f = cond b (Some f) None
 
 -- The refusal of the stray code at an index, if there is one.
 abbrev pub stray_fault : Option ℕ → Option RunFault
-stray_fault None = None
-stray_fault (Some i) = Some (rule_fault (StrayCode i))
+stray_fault o = option_map rule_fault (Maps.stray_fault o)
 
 -- A or B is too short for the ring.
 abbrev pub is_short : State → Bool
@@ -50,9 +51,9 @@ made t c a b = record { cells = length c / t.block; steps = pos 0; a = written_o
 
 -- advance and back
 
--- A count over 65,536, or one that would lead the run past 1,000,000,000 steps either way.
+-- More steps than one call makes, or steps that would lead the run past its limit either way.
 abbrev pub is_too_far : Direction → ℤ → ℕ → Bool
-is_too_far d k n = nat_lt 65536 n || nat_lt 1000000000 (unsigned_abs (k +ℤ toward_steps d n))
+is_too_far d k n = nat_lt max_count n || nat_lt max_steps (unsigned_abs (k +ℤ toward_steps d n))
 
 -- Why n steps are refused, if they are: no inverse, a short buffer, too far, a stray code in the held ring.
 abbrev pub move_fault : Direction → Automaton → ℕ → State → Option RunFault

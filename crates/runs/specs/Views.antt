@@ -17,6 +17,10 @@ use Rattle.runs.specs.Laws.{Shows}
 abbrev pub state_of : {T : Type 0} → Run T → List ℕ → List ℕ → State
 state_of run a b = record { cells = run.cells; steps = run.steps; a = a; b = b }
 
+-- The run is of the tower x, and with its buffers in the state s.
+abbrev pub InState : {T : Type 0} → Run T → List ℕ → List ℕ → T → State → Type 0
+InState run a b x s = (run.tower ≡ x) × (state_of run a b ≡ s)
+
 -- What tell gives.
 abbrev pub told_of : {T : Type 0} → Run T → Told
 told_of run = record { cells = run.cells; steps = run.steps; holder = holder run.steps }

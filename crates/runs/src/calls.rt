@@ -7,16 +7,38 @@ ghost use Rattle.runs.specs.declared.Call.TheVariants.{Advance, Back};
 ghost use Rattle.runs.specs.States.{held, holder, moved};
 ghost use Rattle.runs.specs.Calls.{is_too_far, move_fault, tried, read_fault, read_buffer, present_fault};
 ghost use Rattle.runs.specs.Laws.{Apart, MoveLaw, ReadLaw, Shows};
-ghost use Rattle.runs.specs.Views.{state_of, told_of, Begins, Makes};
+ghost use Rattle.runs.specs.Views.{state_of, InState, told_of, Begins, Makes};
 
 use crate::{Holder, Run, RunFault, Told};
 use rings::{Direction, Refused};
 use rules::{RuleFault, check_codes, map_ring};
 use towers::{Tower, decode_rotated, encode};
 
+// The most steps that one call makes.
 const MAX_COUNT: u32 = 65_536;
 
+// The most steps that a run goes, either way.
 const MAX_STEPS: u64 = 1_000_000_000;
+
+// The steps that a call asks for: this many, in a direction.
+#[derive(Clone, Copy)]
+struct Steps {
+    direction: Direction,
+    count: u32,
+}
+
+impl Steps {
+    // How many they are, those back below 0.
+    fn signed(self) -> i64
+        ensures { result ≡ toward_steps self.direction self.count }
+    {
+        let count = i64::from(self.count);
+        match self.direction {
+            Direction::Forward => count,
+            Direction::Backward => -count,
+        }
+    }
+}
 
 // The caller keeps the two buffers and gives them to each call, the form that users ask for.
 impl<T: Tower> Run<T> {
@@ -36,22 +58,22 @@ impl<T: Tower> Run<T> {
 
     // This many steps of the top.
     pub fn advance(&mut self, count: u32, a: &mut [u32], b: &mut [u32]) -> Result<(), RunFault>
-        ensures same { self.new.tower ≡ self.old.tower }
         ensures answer { result ≡ outcome (move_fault Forward (T.Tower.tower self.old.tower).top count (state_of self.old a.old b.old)) }
-        ensures state { state_of self.new a.new b.new ≡ tried Forward (T.Tower.tower self.old.tower).top count (state_of self.old a.old b.old) }
+        ensures state { InState self.new a.new b.new self.old.tower (tried Forward (T.Tower.tower self.old.tower).top count (state_of self.old a.old b.old)) }
         ensures law { MoveLaw (T.Tower.tower self.old.tower) (Advance count) (state_of self.old a.old b.old) (state_of self.new a.new b.new) result }
     {
-        self.travel(Direction::Forward, count, a, b)
+        let direction = Direction::Forward;
+        self.travel(Steps { direction, count }, a, b)
     }
 
     // This many steps of the top's inverse.
     pub fn back(&mut self, count: u32, a: &mut [u32], b: &mut [u32]) -> Result<(), RunFault>
-        ensures same { self.new.tower ≡ self.old.tower }
         ensures answer { result ≡ outcome (move_fault Backward (T.Tower.tower self.old.tower).top count (state_of self.old a.old b.old)) }
-        ensures state { state_of self.new a.new b.new ≡ tried Backward (T.Tower.tower self.old.tower).top count (state_of self.old a.old b.old) }
+        ensures state { InState self.new a.new b.new self.old.tower (tried Backward (T.Tower.tower self.old.tower).top count (state_of self.old a.old b.old)) }
         ensures law { MoveLaw (T.Tower.tower self.old.tower) (Back count) (state_of self.old a.old b.old) (state_of self.new a.new b.new) result }
     {
-        self.travel(Direction::Backward, count, a, b)
+        let direction = Direction::Backward;
+        self.travel(Steps { direction, count }, a, b)
     }
 
     // The ring that the run holds, where it lies.
@@ -132,36 +154,32 @@ impl<T: Tower> Run<T> {
         }
     }
 
-    // The count of steps after `count` more in a direction.
-    fn steps_after(&self, direction: Direction, count: u32) -> i64
-        ensures { result ≡ self.now.steps +ℤ toward_steps direction count }
+    // The count of steps after these.
+    fn steps_after(&self, steps: Steps) -> i64
+        ensures { result ≡ self.now.steps +ℤ toward_steps steps.direction steps.count }
     {
-        match direction {
-            Direction::Forward => i64::from(self.steps) + i64::from(count),
-            Direction::Backward => i64::from(self.steps) - i64::from(count),
-        }
+        i64::from(self.steps) + steps.signed()
     }
 
-    // A count over its limit, or one that leads past the limit of steps.
-    fn is_too_far(&self, direction: Direction, count: u32) -> bool
-        ensures { result ≡ is_too_far direction self.now.steps count }
+    // More steps than one call makes, or steps that lead past the limit.
+    fn is_too_far(&self, steps: Steps) -> bool
+        ensures { result ≡ is_too_far steps.direction self.now.steps steps.count }
     {
-        count > MAX_COUNT || self.steps_after(direction, count).unsigned_abs() > MAX_STEPS
+        steps.count > MAX_COUNT || self.steps_after(steps).unsigned_abs() > MAX_STEPS
     }
 
     // Refuses steps that the run does not make.
     fn check_move(
         &self,
-        direction: Direction,
-        count: u32,
+        steps: Steps,
         a: &[u32],
         b: &[u32],
     ) -> Result<(), RunFault>
-        ensures { result ≡ outcome (move_fault direction (T.Tower.tower self.now.tower).top count (state_of self.now a.now b.now)) }
+        ensures { result ≡ outcome (move_fault steps.direction (T.Tower.tower self.now.tower).top steps.count (state_of self.now a.now b.now)) }
     {
-        self.tower.interval(direction).ok_or(RuleFault::NoInverse)?;
+        self.tower.interval(steps.direction).ok_or(RuleFault::NoInverse)?;
         let ring = self.present(a, b)?;
-        if self.is_too_far(direction, count) {
+        if self.is_too_far(steps) {
             return Err(RunFault::TooFar);
         }
         check_codes(ring, self.tower.numbers().states)?;
@@ -171,31 +189,31 @@ impl<T: Tower> Run<T> {
     // One step that is not refused, from the buffer that holds the ring into the other.
     fn step(&mut self, direction: Direction, a: &mut [u32], b: &mut [u32])
         requires { move_fault direction (T.Tower.tower self.old.tower).top 1 (state_of self.old a.old b.old) ≡ None }
-        ensures same { self.new.tower ≡ self.old.tower }
-        ensures state { state_of self.new a.new b.new ≡ moved direction (T.Tower.tower self.old.tower).top 1 (state_of self.old a.old b.old) }
+        ensures { InState self.new a.new b.new self.old.tower (moved direction (T.Tower.tower self.old.tower).top 1 (state_of self.old a.old b.old)) }
     {
-        let _ = match self.holder() {
+        // each arm has its call: of a pair of buffers that a `match` or a `swap` chooses, a proof knows nothing
+        match self.holder() {
             Holder::A => map_ring(&self.tower, direction, &a[..self.cells], b),
             Holder::B => map_ring(&self.tower, direction, &b[..self.cells], a),
-        };
-        self.steps = self.steps_after(direction, 1) as i32;
+        }
+        .unwrap();
+        let one = Steps { direction, count: 1 };
+        self.steps = self.steps_after(one) as i32;
     }
 
     // Steps in a direction.
     fn travel(
         &mut self,
-        direction: Direction,
-        count: u32,
+        steps: Steps,
         a: &mut [u32],
         b: &mut [u32],
     ) -> Result<(), RunFault>
-        ensures same { self.new.tower ≡ self.old.tower }
-        ensures answer { result ≡ outcome (move_fault direction (T.Tower.tower self.old.tower).top count (state_of self.old a.old b.old)) }
-        ensures state { state_of self.new a.new b.new ≡ tried direction (T.Tower.tower self.old.tower).top count (state_of self.old a.old b.old) }
+        ensures answer { result ≡ outcome (move_fault steps.direction (T.Tower.tower self.old.tower).top steps.count (state_of self.old a.old b.old)) }
+        ensures state { InState self.new a.new b.new self.old.tower (tried steps.direction (T.Tower.tower self.old.tower).top steps.count (state_of self.old a.old b.old)) }
     {
-        self.check_move(direction, count, a, b)?;
-        for _ in 0..count {
-            self.step(direction, a, b);
+        self.check_move(steps, a, b)?;
+        for _ in 0..steps.count {
+            self.step(steps.direction, a, b);
         }
         Ok(())
     }

@@ -3,7 +3,7 @@ ghost use Rattle.std.specs.Prelude.{◌≡◌, length};
 ghost use Rattle.rings.specs.Refusals.{outcome};
 ghost use Rattle.runs.specs.Calls.{call_fault, called, called_third, performed, performed_third, first_refused};
 ghost use Rattle.runs.specs.Laws.{PerformLaw};
-ghost use Rattle.runs.specs.Views.{state_of};
+ghost use Rattle.runs.specs.Views.{state_of, InState};
 
 use crate::{Call, RefusedCall, Run, RunFault};
 use towers::Tower;
@@ -17,16 +17,16 @@ impl<T: Tower> Run<T> {
         b: &mut [u32],
         third: &mut [u32],
     ) -> Option<RefusedCall>
-        ensures same { self.new.tower ≡ self.old.tower }
         ensures answer { result ≡ first_refused (T.Tower.tower self.old.tower) 0 calls.now (state_of self.old a.old b.old) (length third.old) }
-        ensures state { state_of self.new a.new b.new ≡ performed (T.Tower.tower self.old.tower) calls.now (state_of self.old a.old b.old) }
+        ensures state { InState self.new a.new b.new self.old.tower (performed (T.Tower.tower self.old.tower) calls.now (state_of self.old a.old b.old)) }
         ensures third { third.new ≡ performed_third (T.Tower.tower self.old.tower) calls.now (state_of self.old a.old b.old) third.old }
         ensures law { PerformLaw (T.Tower.tower self.old.tower) calls.now (state_of self.old a.old b.old) (state_of self.new a.new b.new) (length third.old) result }
     {
         let mut refused = None;
         for (index, call) in calls.iter().enumerate() {
-            let done = self.perform_call(*call, a, b, third);
-            refused = refused.or(done.err().map(|fault| RefusedCall { index, fault }));
+            if let Err(fault) = self.perform_call(*call, a, b, third) {
+                refused.get_or_insert(RefusedCall { index, fault });
+            }
         }
         refused
     }
@@ -39,9 +39,8 @@ impl<T: Tower> Run<T> {
         b: &mut [u32],
         third: &mut [u32],
     ) -> Result<(), RunFault>
-        ensures same { self.new.tower ≡ self.old.tower }
         ensures answer { result ≡ outcome (call_fault (T.Tower.tower self.old.tower) call (state_of self.old a.old b.old) (length third.old)) }
-        ensures state { state_of self.new a.new b.new ≡ called (T.Tower.tower self.old.tower) call (state_of self.old a.old b.old) }
+        ensures state { InState self.new a.new b.new self.old.tower (called (T.Tower.tower self.old.tower) call (state_of self.old a.old b.old)) }
         ensures third { third.new ≡ called_third (T.Tower.tower self.old.tower) call (state_of self.old a.old b.old) third.old }
     {
         match call {

@@ -1,7 +1,7 @@
 // A whole simulation: a run made, a list of calls, and what it came to.
-ghost use Rattle.std.specs.Prelude.{◌≡◌, ℕ};
+ghost use Rattle.std.specs.Prelude.{◌≡◌};
 ghost use Rattle.runs.specs.Laws.{Apart};
-ghost use Rattle.runs.specs.Simulations.{usable_room, Simulated};
+ghost use Rattle.runs.specs.Simulations.{Simulated};
 
 use crate::{Call, RefusedCall, Run, RunFault, Told};
 use rings::Refused;
@@ -28,17 +28,11 @@ pub fn simulate<T: Tower>(
     ensures answer { Simulated (T.Tower.tower tower) tower ring.now calls.now a.old b.old third.old result a.new b.new third.new }
     ensures apart { Apart (T.Tower.tower tower) }
 {
-    let room = usable_room(ring.len(), a.len(), b.len(), third.len());
+    let block = tower.numbers().block as usize;
+    let room = a.len().min(b.len()).min(third.len() / block);
     let mut run = Run::begin(tower, ring, room, a)?;
     let refused = run.perform(calls, a, b, third);
-    let _ = run.read(a, b, third);
+    run.read(a, b, third).unwrap();
     let told = run.tell();
     Ok(Simulation { run, told, refused })
-}
-
-// How many cells of the buffers A and B may be used: none where the third buffer is too short for the ring.
-fn usable_room(cells: usize, a: usize, b: usize, third: usize) -> usize
-    ensures { result ≡ usable_room cells a b third }
-{
-    if third < cells { 0 } else { a.min(b) }
 }

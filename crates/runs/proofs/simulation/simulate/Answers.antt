@@ -8,7 +8,7 @@ use Rattle.runs.specs.Calls.{performed_third}
 use Rattle.runs.specs.Laws.{PerformLaw, ReadLaw}
 use Rattle.runs.specs.Views.{state_of}
 use Rattle.runs.specs.Simulations.{usable_room, Simulated}
-use Rattle.runs.proofs.Steps.{state_is}
+use Rattle.runs.proofs.Moving.{state_is}
 use Rattle.runs.proofs.Simulating.{usable_fault, usable_le, simulates}
 use Rattle.runs.proofs.simulation.simulate.Goals as goal
 

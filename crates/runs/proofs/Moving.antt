@@ -1,5 +1,5 @@
 -- Lemmas on the steps of a run: one step after i steps is i + 1 steps, in the rings and in the buffers.
-use Rattle.std.proofs.Common.{◌≡◌, ℕ, zero, suc, ◌<◌, ◌≤◌, true, ◌≢◌, List, ◌++◌, length, take, drop, ℤ, pos, negsuc, ◌+ℤ◌, nat_abs, is_some, IfSome, IfNone, Some, None, Option, sym, refl, ap, ◌∙◌, subst, ap₂, arith, w32, w64, to_z, of_z}
+use Rattle.std.proofs.Common.{◌≡◌, ℕ, zero, suc, ◌<◌, ◌≤◌, true, ◌≢◌, List, ◌++◌, length, take, drop, ℤ, pos, negsuc, ◌+ℤ◌, nat_abs, is_some, IfSome, IfNone, Some, None, Ok, Option, Result, IsOk, sym, refl, ap, ◌∙◌, subst, ap₂, arith, w32, w64, to_z, of_z}
 use Rattle.std.proofs.lemmas.List.{length-take-le, length-append, length-drop, take_at, drop_at, take-append-drop}
 use Rattle.std.proofs.lemmas.Int.{ints}
 use Rattle.std.proofs.lemmas.Bool.Decides.{nat_tests}
@@ -10,32 +10,42 @@ use Rattle.rings.specs.Line.{power}
 use Rattle.rings.specs.Ring.{Codes, Ring}
 use Rattle.rings.specs.Local.{Local}
 use Rattle.rings.specs.Automaton.{Automaton, Sound, toward, after, Goes, toward_steps}
-use Rattle.rings.specs.Refusals.{unless_refused}
+use Rattle.rings.specs.Refusals.{outcome, unless_refused}
 use Rattle.rings.proofs.Ring.{first_stray-codes}
 use Rattle.rings.proofs.Automaton.{after_add, length-after, ring-after}
-use Rattle.rules.specs.Maps.{map_fault, map_buffer, image, written_over, one_step, StepLaw}
+use Rattle.rules.specs.declared.fault.RuleFault.{RuleFault}
+use Rattle.rules.specs.Maps.{map_fault, map_answer, map_buffer, image, written_over, one_step, StepLaw}
 use Rattle.rules.proofs.Maps.{step-laws}
 use Rattle.runs.specs.declared.Holder.{Holder}
 use Rattle.runs.specs.declared.Holder.TheVariants.{A, B}
+use Rattle.runs.specs.Limits.{max_steps}
 use Rattle.runs.specs.States.{State, holder, of_buffer, of_holder, held, holding, moved}
 use Rattle.runs.specs.Calls.{move_fault}
 use Rattle.runs.proofs.Refusals.{Roomy, Movable, unrefused}
 
 -- one step of a ring
 
-pub map_buffer_good : (d : Direction) (a : Automaton) (c buffer : List ℕ) → is_some (toward d a) ≡ true → 1 ≤ length c → length c ≤ 2048 → length c ≤ length buffer → Codes a.states c
-    → map_buffer d a c buffer ≡ written_over (after a (toward_steps d 1) c) buffer
-map_buffer_good d a c buffer goes some few fits codes = by (toward d a) goes (step-laws d a) where
-  same : (d : Direction) → after a (one_step d) c ≡ after a (toward_steps d 1) c
-  same Forward = refl
-  same Backward = refl
+module _ (d : Direction) (a : Automaton) (c buffer : List ℕ) (goes : is_some (toward d a) ≡ true) (some : 1 ≤ length c) (few : length c ≤ 2048) (fits : length c ≤ length buffer) (codes : Codes a.states c) where
+  pub map_accepted : map_fault a.states (toward d a) c (length buffer) ≡ None
+  map_accepted = by (toward d a) goes where
+    by : (o : Option Local) → is_some o ≡ true → map_fault a.states o c (length buffer) ≡ None
+    by None e = cc
+    by (Some l) e =
+        let ne : length c ≢ 0 = omega arith in
+        rw (ne_eqb (length c) 0 ne) (rw (le-ltb 2048 (length c) few) (rw (le-ltb (length buffer) (length c) fits) (rw (first_stray-codes 0 a.states c codes))))
 
-  by : (o : Option Local) → is_some o ≡ true → IfSome o (StepLaw d a) → unless_refused (map_fault a.states o c (length buffer)) (written_over (image o c) buffer) buffer ≡ written_over (after a (toward_steps d 1) c) buffer
-  by None g law = cc
-  by (Some l) g law =
-      let ne : length c ≢ 0 = omega arith in
-      rw (ne_eqb (length c) 0 ne) (rw (le-ltb 2048 (length c) few) (rw (le-ltb (length buffer) (length c) fits) (rw (first_stray-codes 0 a.states c codes)
-      (ap (λ x. written_over x buffer) (sym (law.one c) ∙ same d)))))
+  image-after : image (toward d a) c ≡ after a (toward_steps d 1) c
+  image-after = by (toward d a) goes (step-laws d a) where
+    same : (d : Direction) → after a (one_step d) c ≡ after a (toward_steps d 1) c
+    same Forward = refl
+    same Backward = refl
+
+    by : (o : Option Local) → is_some o ≡ true → IfSome o (StepLaw d a) → image o c ≡ after a (toward_steps d 1) c
+    by None e law = cc
+    by (Some l) e law = sym (law.one c) ∙ same d
+
+  pub map_buffer_good : map_buffer d a c buffer ≡ written_over (after a (toward_steps d 1) c) buffer
+  map_buffer_good = ap₂ (λ f l. unless_refused f (written_over l buffer) buffer) map_accepted image-after
 
 pub goes_always : (a : Automaton) (k : ℤ) → is_some a.inverse ≡ true → Goes a k
 goes_always a (pos n) e = tt
@@ -70,7 +80,7 @@ pub state_is : {n n' : ℕ} {k k' : ℤ} {l l' r r' : List ℕ} → n ≡ n' →
 state_is en ek el er = cc
 
 -- the count, as the code stores it
-pub stored : (k z : ℤ) → z ≡ k → nat_abs k ≤ 1000000000 → to_z w32 (of_z w32 (to_z w64 (of_z w64 z))) ≡ k
+pub stored : (k z : ℤ) → z ≡ k → nat_abs k ≤ max_steps → to_z w32 (of_z w32 (to_z w64 (of_z w64 z))) ≡ k
 stored k z e h = omega (arith, ints)
 
 -- the buffer that holds the ring
@@ -179,12 +189,28 @@ module _ (d : Direction) (a : Automaton) (s : State) (some : 1 ≤ s.cells) (few
       ap (λ g. after_writing g (after a (toward_steps d 1) (held s)) (after a (toward_steps d 0) (held s))) (holder_next d s.steps ∙ ap other e)
       ∙ ap₂ (after_writing (other h)) (ap (after a (toward_steps d 1)) held-front) (after_none d a (held s) ∙ held-front)
 
-  mapped : (h : Holder) → holder s.steps ≡ h → (to : List ℕ) → s.cells ≤ length to → map_buffer d a (front h) to ≡ written_over (after a (toward_steps d 1) (front h)) to
+  length-front : (h : Holder) → holder s.steps ≡ h → length (front h) ≡ s.cells
   unfolding front
-  mapped h e to wide =
-      let size : length (front h) ≡ s.cells = ap (λ g. length (take s.cells (of_buffer g s.a s.b))) (sym e) ∙ length-held s m.room in
-      let codes : Codes a.states (front h) = subst (λ g. Codes a.states (take s.cells (of_buffer g s.a s.b))) e m.codes in
-      map_buffer_good d a (front h) to m.goes (omega (arith, size)) (omega (arith, size)) (omega (arith, size)) codes
+  length-front h e = ap (λ g. length (take s.cells (of_buffer g s.a s.b))) (sym e) ∙ length-held s m.room
+
+  codes-front : (h : Holder) → holder s.steps ≡ h → Codes a.states (front h)
+  unfolding front
+  codes-front h e = subst (λ g. Codes a.states (take s.cells (of_buffer g s.a s.b))) e m.codes
+
+  module _ (h : Holder) (e : holder s.steps ≡ h) (to : List ℕ) (wide : s.cells ≤ length to) where
+    mapped : map_buffer d a (front h) to ≡ written_over (after a (toward_steps d 1) (front h)) to
+    mapped = let size = length-front h e in map_buffer_good d a (front h) to m.goes (omega (arith, size)) (omega (arith, size)) (omega (arith, size)) (codes-front h e)
+
+    front_accepted : map_answer d a (front h) to ≡ Ok tt
+    front_accepted = let size = length-front h e in ap outcome (map_accepted d a (front h) to m.goes (omega (arith, size)) (omega (arith, size)) (omega (arith, size)) (codes-front h e))
+
+  pub accepted_from_a : holder s.steps ≡ A → (r : Result (Unit {0}) RuleFault) → r ≡ map_answer d a (take s.cells s.a) s.b → IsOk r
+  unfolding front
+  accepted_from_a e r answer = subst IsOk (sym (answer ∙ front_accepted A e s.b m.room.b)) refl
+
+  pub accepted_from_b : holder s.steps ≡ B → (r : Result (Unit {0}) RuleFault) → r ≡ map_answer d a (take s.cells s.b) s.a → IsOk r
+  unfolding front
+  accepted_from_b e r answer = subst IsOk (sym (answer ∙ front_accepted B e s.a m.room.a)) refl
 
   pub step_from_a : holder s.steps ≡ A → (n : ℕ) (k : ℤ) (l r : List ℕ) → n ≡ s.cells → k ≡ s.steps +ℤ toward_steps d 1 → l ≡ s.a → r ≡ map_buffer d a (take s.cells s.a) s.b
       → ◌≡◌ {A = State} (record { cells = n; steps = k; a = l; b = r }) (moved d a 1 s)
@@ -198,7 +224,7 @@ module _ (d : Direction) (a : Automaton) (s : State) (some : 1 ≤ s.cells) (few
 
 -- steps that nothing refuses
 
-module _ (d : Direction) (a : Automaton) (sound : Sound a) (n : ℕ) (s : State) (some : 1 ≤ s.cells) (near : nat_abs s.steps ≤ 1000000000) (m : Movable d a n s) where
+module _ (d : Direction) (a : Automaton) (sound : Sound a) (n : ℕ) (s : State) (some : 1 ≤ s.cells) (near : nat_abs s.steps ≤ max_steps) (m : Movable d a n s) where
   ring-held : Ring a.states (held s)
   ring-held = record { some = omega (arith, length-held s m.room); codes = m.codes }
 
@@ -224,6 +250,6 @@ module _ (d : Direction) (a : Automaton) (sound : Sound a) (n : ℕ) (s : State)
     near = rw (steps-moved d a i s) (between d m.near);
     codes = subst (Codes a.states) (sym (held_moved d a s m.room i)) (ring-after a sound (toward_steps d i) (held s) ring-held).codes;
   }) where
-    between : (d : Direction) → nat_abs (s.steps +ℤ toward_steps d n) ≤ 1000000000 → nat_abs ((s.steps +ℤ toward_steps d i) +ℤ toward_steps d 1) ≤ 1000000000
+    between : (d : Direction) → nat_abs (s.steps +ℤ toward_steps d n) ≤ max_steps → nat_abs ((s.steps +ℤ toward_steps d i) +ℤ toward_steps d 1) ≤ max_steps
     between Forward e = omega (arith, ints)
     between Backward e = omega (arith, ints)
