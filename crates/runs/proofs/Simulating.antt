@@ -1,5 +1,5 @@
 -- Lemmas on whole simulations.
-use Rattle.std.proofs.Common.{◌≡◌, ℕ, ◌/◌, ◌%◌, ◌<◌, ◌≤◌, min, true, false, cond, eqb, List, [], ◌∷◌, length, ℤ, pos, ◌*ℤ◌, is_some, Some, None, Option, Result, sym, refl, ap, ◌∙◌, subst, div-add-mod', arith}
+use Rattle.std.proofs.Common.{◌≡◌, ℕ, ◌*◌, ◌/◌, ◌%◌, ◌≤◌, min, true, false, cond, ltb, List, [], ◌∷◌, length, ℤ, pos, ◌*ℤ◌, is_some, Some, None, Ok, Option, Result, IsOk, sym, refl, ap, ◌∙◌, subst, mul-le-mul_right, div-add-mod', arith}
 use Rattle.std.proofs.lemmas.Int.{ints}
 use Rattle.std.proofs.lemmas.Bool.{le-ltb}
 use Rattle.std.proofs.lemmas.Bool.Decides.{nat_tests}
@@ -10,7 +10,7 @@ use Rattle.rings.specs.Line.{power}
 use Rattle.rings.specs.Ring.{first_stray}
 use Rattle.rings.specs.Automaton.{after}
 use Rattle.rings.proofs.Automaton.{length-after}
-use Rattle.rings.specs.Refusals.{unless_refused}
+use Rattle.rings.specs.Refusals.{outcome, unless_refused}
 use Rattle.rules.specs.declared.fault.RuleFault.TheVariants.{ShortBuffer}
 use Rattle.rules.specs.Maps.{written_over}
 use Rattle.combinators.specs.Lifts.{lifted}
@@ -25,36 +25,27 @@ use Rattle.runs.specs.declared.fault.RunFault.{RunFault}
 use Rattle.runs.specs.declared.fault.RunFault.TheVariants.{Tower as Refused}
 use Rattle.runs.specs.States.{State, holder}
 use Rattle.runs.specs.Calls.{rule_fault, refused_if, reading, read_buffer, called, called_third, performed_third, made}
-use Rattle.runs.specs.Laws.{Shows, limit_fault, limit_refused, shown, Performs, last_step, accepted, has_inverse, bottom_after, final_count, PerformLaw, ReadLaw, SimulatesRun, ExactInverse}
-use Rattle.runs.specs.Simulations.{usable_room, simulate_fault}
+use Rattle.runs.specs.Laws.{Shows, limit_fault, limit_refused, shown, Performs, Reads, last_step, accepted, has_inverse, bottom_after, final_count, PerformLaw, ReadLaw, SimulatesRun, ExactInverse}
+use Rattle.towers.proofs.Calls.{more_than}
 use Rattle.runs.proofs.Moving.{written_twice, length-written}
 use Rattle.runs.proofs.Shown.{Stage, stage_first, stage_called, call_fault-shown}
-use Rattle.runs.proofs.Performing.{option_or_none}
 use Rattle.runs.proofs.Reading.{reading-shown}
 use Rattle.runs.proofs.Making.{fitting-made, cells_room, shows-made}
 
 -- refusals
 
-some_block : (n m : ℕ) → eqb n 0 ≡ false → eqb (n % m) 0 ≡ true → 0 < n / m
-some_block n m e f = grind (arith, nat_tests, div-add-mod')
+-- a number of cells in whole blocks is short of room as its number of blocks is
+whole_blocks : (room n m : ℕ) → 1 ≤ m → n % m ≡ 0 → ltb room n ≡ ltb (room / m) (n / m)
+whole_blocks room n m some whole = let e : n ≡ n / m * m = omega (arith, div-add-mod' n m) in ap (ltb room) e ∙ more_than room (n / m) m some
 
-short_room : (o : Option ℕ) (cells room : ℕ) → 0 < cells → option_map Refused (stray_or_short o cells 0) ≡ option_or (option_map Refused (stray_or_short o cells room)) (Some (rule_fault ShortBuffer))
-short_room (Some i) cells room h = refl
-short_room None cells room h = grind (arith, nat_tests)
+stray_or_both_short : (o : Option ℕ) (cells room third : ℕ) → option_map Refused (stray_or_short o cells (min room third)) ≡ option_or (option_map Refused (stray_or_short o cells room)) (refused_if (ltb third cells) (rule_fault ShortBuffer))
+stray_or_both_short (Some i) cells room third = refl
+stray_or_both_short None cells room third = grind (arith, nat_tests)
 
--- no room is refused as a short third buffer is
-no_room : (q m : ℕ) (c : List ℕ) (room : ℕ) → option_map Refused (encode_fault q m c 0) ≡ option_or (option_map Refused (encode_fault q m c room)) (Some (rule_fault ShortBuffer))
-no_room q m c room = grind (arith, nat_tests, some_block (length c) m, short_room (first_stray q c) (length c / m) room)
-
-pub usable_fault : (t : Tower) (c : List ℕ) (a b third : ℕ) → option_map Refused (encode_fault t.bottom.states t.block c (usable_room (length c) a b third)) ≡ simulate_fault t c a b third
-usable_fault t c a b third = grind (arith, nat_tests, no_room t.bottom.states t.block c (min a b), option_or_none)
-
-pub usable_le : (n a b third : ℕ) → (usable_room n a b third ≤ a) × (usable_room n a b third ≤ b)
-usable_le n a b third = (grind (arith, nat_tests), grind (arith, nat_tests))
-
--- a third buffer that is not too short has room for the ring
-pub third_room : (n a b third : ℕ) → 0 < usable_room n a b third → n ≤ third
-third_room n a b third h = grind (arith, nat_tests)
+-- too little room for the blocks of a third buffer is refused as a short third buffer is, after all that refuses a run
+pub third_fault : (q m : ℕ) → 1 ≤ m → (c : List ℕ) (room third : ℕ)
+    → option_map Refused (encode_fault q m c (min room (third / m))) ≡ option_or (option_map Refused (encode_fault q m c room)) (refused_if (ltb third (length c)) (rule_fault ShortBuffer))
+third_fault q m some c room third = grind (arith, nat_tests, whole_blocks third (length c) m some, stray_or_both_short (first_stray q c) (length c / m) room (third / m))
 
 -- the third buffer: whatever a list reads, a ring written over it leaves nothing of it
 
@@ -93,40 +84,62 @@ bottom_none : (t : Tower) (c : List ℕ) → bottom_after t (pos 0) c ≡ c
 unfolding power
 bottom_none t c = let e : pos t.steps *ℤ pos 0 ≡ pos 0 = omega (arith, ints) in ap (λ z. after t.bottom z c) e
 
-module _ (t : Tower) (standing : Standing t) (c : List ℕ) (calls : List Call) (a b third : List ℕ)
-    (unrefused : encode_fault t.bottom.states t.block c (usable_room (length c) (length a) (length b) (length third)) ≡ None)
-    (first s : State) (is_made : first ≡ made t c a b) (tells : Told) (refused : Option RefusedCall) (then_third last_third : List ℕ) (r : Result (Unit {0}) RunFault)
-    (performs : PerformLaw t calls first s (length third) refused) (reads_so_far : then_third ≡ performed_third t calls first third) (same_length : length then_third ≡ length third)
-    (reads : ReadLaw t s then_third last_third r) (told : tells ≡ record { cells = s.cells; steps = s.steps; holder = holder s.steps }) where
-  fits : (usable_room (length c) (length a) (length b) (length third) ≤ length a) × (usable_room (length c) (length a) (length b) (length third) ≤ length b)
-  fits = usable_le (length c) (length a) (length b) (length third)
+-- how many top cells all three buffers have room for
+abbrev pub room_of : Tower → List ℕ → List ℕ → List ℕ → ℕ
+room_of t a b third = min (min (length a) (length b)) (length third / t.block)
+
+-- what the calls of a simulation made: the first run and the last, the third buffer before the reading and after it, and what the reading answered
+pub record Ran (t : Tower) (c : List ℕ) (calls : List Call) (a b third : List ℕ) (first s : State) (refused : Option RefusedCall) (then_third last_third : List ℕ) (r : Result (Unit {0}) RunFault) : Type 0 where
+  pub unrefused : encode_fault t.bottom.states t.block c (room_of t a b third) ≡ None
+  pub is_made : first ≡ made t c a b
+  pub performs : PerformLaw t calls first s (length third) refused
+  pub reads_so_far : then_third ≡ performed_third t calls first third
+  pub same_length : length then_third ≡ length third
+  pub reads : ReadLaw t s then_third last_third r
+
+module _ {t : Tower} {c : List ℕ} {calls : List Call} {a b third : List ℕ} {first s : State} {refused : Option RefusedCall} {then_third last_third : List ℕ} {r : Result (Unit {0}) RunFault}
+    (standing : Standing t) (ran : Ran t c calls a b third first s refused then_third last_third r) where
+  room_a : room_of t a b third ≤ length a
+  room_a = omega arith
+
+  room_b : room_of t a b third ≤ length b
+  room_b = omega arith
 
   shows_first : Shows t c (pos 0) first
-  shows_first = subst (Shows t c (pos 0)) (sym is_made) (shows-made t c a _ fits.0 standing unrefused b fits.1)
+  shows_first = subst (Shows t c (pos 0)) (sym ran.is_made) (shows-made t c a _ room_a standing ran.unrefused b room_b)
 
   room_third : length c ≤ length third
   room_third =
-      let some = (fitting-made t c a _ fits.0 standing unrefused).some in
-      let room = cells_room t c a _ fits.0 standing unrefused in
-      third_room (length c) (length a) (length b) (length third) (omega (arith, some, room))
+      let blocks : length c / t.block ≤ length third / t.block = omega (arith, cells_room t c a _ room_a standing ran.unrefused) in
+      let cells : length c / t.block * t.block ≤ length third / t.block * t.block = mul-le-mul_right t.block blocks in
+      omega (arith, cells, (fitting-made t c a _ room_a standing ran.unrefused).size, div-add-mod' (length third) t.block)
 
   done : Performs t calls c (pos 0) first s (length third) refused
-  done = performs c (pos 0) shows_first
+  done = ran.performs c (pos 0) shows_first
+
+  read_law : Reads t c (final_count t calls) then_third last_third r
+  read_law = ran.reads c (final_count t calls) done.shows
+
+  -- the ring that is reached is read
+  pub read_ok : IsOk r
+  read_ok =
+      let e : r ≡ Ok tt = read_law.answer ∙ ap (λ x. outcome (refused_if x (rule_fault ShortBuffer))) (le-ltb (length then_third) (length c) (omega (arith, ran.same_length, room_third))) in
+      subst IsOk (sym e) refl
 
   read : last_third ≡ written_over (bottom_after t (final_count t calls) c) third
   read =
       let k = final_count t calls in
       let size : length (bottom_after t k c) ≡ length c = length-after t.bottom (pos t.steps *ℤ k) c in
-      (reads c k done.shows).buffer (omega (arith, same_length, room_third))
-      ∙ ap (written_over (bottom_after t k c)) reads_so_far
+      read_law.buffer (omega (arith, ran.same_length, room_third))
+      ∙ ap (written_over (bottom_after t k c)) ran.reads_so_far
       ∙ third_performed t standing.laws c first (bottom_after t k c) size calls (pos 0) None first (stage_first t standing.laws c (pos 0) first shows_first) third room_third
 
-  simulates_run : SimulatesRun t c calls a b third tells refused s last_third
-  simulates_run = record {
+  simulates_run : (tells : Told) → tells ≡ record { cells = s.cells; steps = s.steps; holder = holder s.steps } → SimulatesRun t c calls a b third tells refused s last_third
+  simulates_run tells told = record {
     told = told ∙ ap (λ z. record { cells = s.cells; steps = z; holder = holder z }) done.shows.count;
     refused = done.answer ∙ ap (λ x. limit_refused (has_inverse t) x 0 calls (pos 0)) (le-ltb (length third) (length c) room_third);
     count = done.count ∙ omega (arith, ints);
-    buffers = done.buffers ∙ ap (shown t c (final_count t calls) (last_step (has_inverse t) calls (pos 0) None)) is_made;
+    buffers = done.buffers ∙ ap (shown t c (final_count t calls) (last_step (has_inverse t) calls (pos 0) None)) ran.is_made;
     presents = done.shows.ring;
     reads = read;
     shows = done.shows;
@@ -143,5 +156,5 @@ module _ (t : Tower) (standing : Standing t) (c : List ℕ) (calls : List Call) 
         presents = λ e. done.shows.ring ∙ ap (λ z. after t.top z (t.encode c)) (none e);
       }
 
-  pub simulates : SimulatesRun t c calls a b third tells refused s last_third × ExactInverse t c calls third s last_third
-  simulates = (simulates_run, exact_inverse)
+  pub simulates : (tells : Told) → tells ≡ record { cells = s.cells; steps = s.steps; holder = holder s.steps } → SimulatesRun t c calls a b third tells refused s last_third × ExactInverse t c calls third s last_third
+  simulates tells told = (simulates_run tells told, exact_inverse)

@@ -15,10 +15,6 @@ use Rattle.runs.specs.Views.{state_of}
 abbrev pub simulate_fault : Tower → List ℕ → ℕ → ℕ → ℕ → Option RunFault
 simulate_fault t c room_a room_b room_third = option_or (make_fault t c room_a room_b) (refused_if (nat_lt room_third (length c)) (rule_fault ShortBuffer))
 
--- How many cells of the buffers A and B a simulation may use: none where the third buffer is too short for a ring of n cells.
-abbrev pub usable_room : ℕ → ℕ → ℕ → ℕ → ℕ
-usable_room n room_a room_b room_third = cond (nat_lt room_third n) 0 (min room_a room_b)
-
 -- What simulating c by a list of calls comes to, with the tower x, which means t: the law of whole runs, and the law of the exact inverse;
 -- or the refusal, with the tower and all buffers as they were.
 abbrev pub Simulated : {T : Type 0} → Tower → T → List ℕ → List Call → List ℕ → List ℕ → List ℕ → Result (Simulation T) (Refused T RunFault) → List ℕ → List ℕ → List ℕ → Type 0
