@@ -75,5 +75,5 @@ makes t x c a b after_a (Ok run) standing (accepted, tower, cells, steps, writte
     let room : min (length a) (length b) ≤ length a = omega arith in
     let rb : min (length a) (length b) ≤ length b = omega arith in
     let is : state_of run after_a b ≡ made t c a b = state_is cells steps written refl in
-    (ap (option_map Tower) accepted, tower, is, subst (Shows t c (pos 0)) (sym is) (shows-made t c a (min (length a) (length b)) room standing accepted b rb))
+    (ap (option_map Tower) accepted, (tower, is), subst (Shows t c (pos 0)) (sym is) (shows-made t c a (min (length a) (length b)) room standing accepted b rb))
 makes t x c a b after_a (Err e) standing h = h

@@ -7,7 +7,7 @@ use Rattle.rings.specs.Ring.{first_stray, rotate}
 use Rattle.rings.specs.Automaton.{Automaton, toward, toward_steps}
 use Rattle.rings.specs.Refusals.{unless_refused}
 use Rattle.rules.specs.declared.fault.RuleFault.{RuleFault}
-use Rattle.rules.specs.declared.fault.RuleFault.TheVariants.{StrayCode, ShortBuffer, NoInverse}
+use Rattle.rules.specs.declared.fault.RuleFault.TheVariants.{ShortBuffer, NoInverse}
 use Rattle.rules.specs.Maps as Maps
 use Rattle.rules.specs.Maps.{written_over}
 use Rattle.towers.specs.declared.fault.TowerFault.TheVariants.{Rule}

@@ -1,5 +1,5 @@
 -- What a whole simulation answers and leaves in the buffers.
-use Rattle.std.specs.Prelude.{◌≡◌, ℕ, min, cond, List, length, Some, None, Ok, Err, Option, Result, nat_lt}
+use Rattle.std.specs.Prelude.{◌≡◌, ℕ, List, length, Some, None, Ok, Err, Option, Result, nat_lt}
 use Rattle.std.specs.Option.{option_or}
 use Rattle.rings.specs.declared.Refused.{Refused}
 use Rattle.rules.specs.declared.fault.RuleFault.TheVariants.{ShortBuffer}

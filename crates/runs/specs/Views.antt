@@ -35,5 +35,5 @@ Begins t x c room a (Err e) after_a = (option_map Tower (encode_fault t.bottom.s
 -- What making a run with the tower x, which means t, comes to: the run, whose buffers show c after no step; or the refusal, with the tower and the buffer A
 -- as they were.
 abbrev pub Makes : {T : Type 0} → Meaning → T → List ℕ → List ℕ → List ℕ → Result (Run T) (Refused T RunFault) → List ℕ → Type 0
-Makes t x c a b (Ok run) after_a = (make_fault t c (length a) (length b) ≡ None) × (run.tower ≡ x) × (state_of run after_a b ≡ made t c a b) × Shows t c (pos 0) (state_of run after_a b)
+Makes t x c a b (Ok run) after_a = (make_fault t c (length a) (length b) ≡ None) × InState run after_a b x (made t c a b) × Shows t c (pos 0) (state_of run after_a b)
 Makes t x c a b (Err e) after_a = (make_fault t c (length a) (length b) ≡ Some e.fault) × (e.given ≡ x) × (after_a ≡ a)

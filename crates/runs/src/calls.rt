@@ -169,15 +169,12 @@ impl<T: Tower> Run<T> {
     }
 
     // Refuses steps that the run does not make.
-    fn check_move(
-        &self,
-        steps: Steps,
-        a: &[u32],
-        b: &[u32],
-    ) -> Result<(), RunFault>
+    fn check_move(&self, steps: Steps, a: &[u32], b: &[u32]) -> Result<(), RunFault>
         ensures { result ≡ outcome (move_fault steps.direction (T.Tower.tower self.now.tower).top steps.count (state_of self.now a.now b.now)) }
     {
-        self.tower.interval(steps.direction).ok_or(RuleFault::NoInverse)?;
+        self.tower
+            .interval(steps.direction)
+            .ok_or(RuleFault::NoInverse)?;
         let ring = self.present(a, b)?;
         if self.is_too_far(steps) {
             return Err(RunFault::TooFar);
@@ -197,17 +194,15 @@ impl<T: Tower> Run<T> {
             Holder::B => map_ring(&self.tower, direction, &b[..self.cells], a),
         }
         .unwrap();
-        let one = Steps { direction, count: 1 };
+        let one = Steps {
+            direction,
+            count: 1,
+        };
         self.steps = self.steps_after(one) as i32;
     }
 
     // Steps in a direction.
-    fn travel(
-        &mut self,
-        steps: Steps,
-        a: &mut [u32],
-        b: &mut [u32],
-    ) -> Result<(), RunFault>
+    fn travel(&mut self, steps: Steps, a: &mut [u32], b: &mut [u32]) -> Result<(), RunFault>
         ensures answer { result ≡ outcome (move_fault steps.direction (T.Tower.tower self.old.tower).top steps.count (state_of self.old a.old b.old)) }
         ensures state { InState self.new a.new b.new self.old.tower (tried steps.direction (T.Tower.tower self.old.tower).top steps.count (state_of self.old a.old b.old)) }
     {

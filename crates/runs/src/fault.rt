@@ -28,7 +28,7 @@ impl RunFault {
         }
     }
 
-    // The index that the refusal points at, or 0.
+    // The index that the refusal points at. Users ask that every place that is not named is 0.
     pub fn place(self) -> usize
         ensures answer { result ≡ run_fault_place self }
     {

@@ -1,4 +1,4 @@
-use Rattle.std.proofs.Common.{◌≡◌, length, get_or, Some, None, sym, ap, ◌∙◌}
+use Rattle.std.proofs.Common.{◌≡◌, length, get_or, Some, sym, ap, ◌∙◌}
 use Rattle.std.specs.Option.{option_map, option_or}
 use Rattle.rings.proofs.Refusals.{accepted, refused}
 use Rattle.runs.specs.declared.Call.TheVariants.{Advance}
