@@ -6,6 +6,7 @@ use Rattle.std.proofs.lemmas.Bool.Decides.{nat_tests}
 use Rattle.std.proofs.lemmas.Bool.{ne_eqb, le-ltb}
 use Rattle.rings.specs.declared.Direction.{Direction}
 use Rattle.rings.specs.declared.Direction.TheVariants.{Forward, Backward}
+use Rattle.rings.specs.Limits.{max_cells}
 use Rattle.rings.specs.Line.{power}
 use Rattle.rings.specs.Ring.{Codes, Ring}
 use Rattle.rings.specs.Local.{Local}
@@ -25,14 +26,14 @@ use Rattle.runs.proofs.Refusals.{Roomy, Movable, unrefused}
 
 -- one step of a ring
 
-module _ (d : Direction) (a : Automaton) (c buffer : List ℕ) (goes : is_some (toward d a) ≡ true) (some : 1 ≤ length c) (few : length c ≤ 2048) (fits : length c ≤ length buffer) (codes : Codes a.states c) where
+module _ (d : Direction) (a : Automaton) (c buffer : List ℕ) (goes : is_some (toward d a) ≡ true) (some : 1 ≤ length c) (few : length c ≤ max_cells) (fits : length c ≤ length buffer) (codes : Codes a.states c) where
   pub map_accepted : map_fault a.states (toward d a) c (length buffer) ≡ None
   map_accepted = by (toward d a) goes where
     by : (o : Option Local) → is_some o ≡ true → map_fault a.states o c (length buffer) ≡ None
     by None e = cc
     by (Some l) e =
         let ne : length c ≢ 0 = omega arith in
-        rw (ne_eqb (length c) 0 ne) (rw (le-ltb 2048 (length c) few) (rw (le-ltb (length buffer) (length c) fits) (rw (first_stray-codes 0 a.states c codes))))
+        rw (ne_eqb (length c) 0 ne) (rw (le-ltb max_cells (length c) few) (rw (le-ltb (length buffer) (length c) fits) (rw (first_stray-codes 0 a.states c codes))))
 
   image-after : image (toward d a) c ≡ after a (toward_steps d 1) c
   image-after = by (toward d a) goes (step-laws d a) where
@@ -174,7 +175,7 @@ module _ (d : Direction) (a : Automaton) (s : State) (room : Roomy s) where
 
 -- one step, as the code makes it: from the buffer that holds the ring into the other
 
-module _ (d : Direction) (a : Automaton) (s : State) (some : 1 ≤ s.cells) (few : s.cells ≤ 2048) (m : Movable d a 1 s) where
+module _ (d : Direction) (a : Automaton) (s : State) (some : 1 ≤ s.cells) (few : s.cells ≤ max_cells) (m : Movable d a 1 s) where
   after_writing : Holder → List ℕ → List ℕ → State
   after_writing g x y = record { cells = s.cells; steps = s.steps +ℤ toward_steps d 1; a = written_over (of_buffer g x y) s.a; b = written_over (of_buffer g y x) s.b }
 

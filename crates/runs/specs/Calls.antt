@@ -7,8 +7,7 @@ use Rattle.rings.specs.Ring.{first_stray, rotate}
 use Rattle.rings.specs.Automaton.{Automaton, toward, toward_steps}
 use Rattle.rings.specs.Refusals.{unless_refused}
 use Rattle.rules.specs.declared.fault.RuleFault.{RuleFault}
-use Rattle.rules.specs.declared.fault.RuleFault.TheVariants.{ShortBuffer, NoInverse}
-use Rattle.rules.specs.Maps as Maps
+use Rattle.rules.specs.declared.fault.RuleFault.TheVariants.{StrayCode, ShortBuffer, NoInverse}
 use Rattle.rules.specs.Maps.{written_over}
 use Rattle.towers.specs.declared.fault.TowerFault.TheVariants.{Rule}
 use Rattle.towers.specs.Towers.{Tower as Meaning}
@@ -33,7 +32,7 @@ refused_if b f = cond b (Some f) None
 
 -- The refusal of the stray code at an index, if there is one.
 abbrev pub stray_fault : Option ℕ → Option RunFault
-stray_fault o = option_map rule_fault (Maps.stray_fault o)
+stray_fault o = option_map (λ i. rule_fault (StrayCode i)) o
 
 -- A or B is too short for the ring.
 abbrev pub is_short : State → Bool

@@ -81,14 +81,14 @@ impl<T: Tower> Run<T> {
         ensures answer { MatchResult result (λ ring. (present_fault (state_of self.now a.now b.now) ≡ None) × (ring.now ≡ held (state_of self.now a.now b.now))) (λ e. present_fault (state_of self.now a.now b.now) ≡ Some e) }
         ensures law { (c : List ℕ) (k : ℤ) → Shows (T.Tower.tower self.now.tower) c k (state_of self.now a.now b.now) → MatchResult result (λ ring. ring.now ≡ after (T.Tower.tower self.now.tower).top k ((T.Tower.tower self.now.tower).encode c)) (λ e. ⊥) }
     {
-        let cells = self.cells;
-        if a.len() < cells || b.len() < cells {
+        if a.len() < self.cells || b.len() < self.cells {
             return Err(RuleFault::ShortBuffer.into());
         }
-        Ok(match self.holder() {
-            Holder::A => &a[..cells],
-            Holder::B => &b[..cells],
-        })
+        let holding = match self.holder() {
+            Holder::A => a,
+            Holder::B => b,
+        };
+        Ok(&holding[..self.cells])
     }
 
     // Writes the bottom ring that the run has reached, into the first cells of a third buffer.
