@@ -29,6 +29,7 @@ pub fn simulate<T: Tower>(
     ensures apart { Apart (T.Tower.tower tower) }
 {
     let block = tower.numbers().block as usize;
+    // how many top cells all three buffers have room for
     let room = a.len().min(b.len()).min(third.len() / block);
     let mut run = Run::begin(tower, ring, room, a)?;
     let refused = run.perform(calls, a, b, third);
