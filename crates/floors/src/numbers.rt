@@ -141,7 +141,8 @@ impl TowerNumbers {
         )
     }
 
-    // The numbers of this many steps at once.
+    // The numbers of this many steps at once. (Each action says what it makes of both intervals: a shift moves that of the inverse the
+    // other way, so a shared function would take two closures, each with its clauses.)
     fn iterated(self, times: u32) -> Numbers
         requires { times ≤ max_argument }
         ensures { result ≡ iterate_numbers times self.numbers }

@@ -2,7 +2,7 @@
 
 // What a tower tells: the states, the interval and the inverse's interval of its top, the bottom cells in a top cell (M), the bottom
 // steps in a top step (T), by how many bottom cells a top step turns the ring (S), whether the top is mirrored (v), and the states of
-// its bottom.
+// its bottom. The states and the ends stand one by one and not as a shape: an action changes some of them, and would take a shape apart.
 #[derive(Clone, Copy, PartialEq, Eq, Debug)]
 pub struct Numbers {
     pub states: u32,
