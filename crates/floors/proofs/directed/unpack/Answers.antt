@@ -13,15 +13,6 @@ use Rattle.floors.proofs.directed.unpack.Goals.{In-loop-i}
 block-ends : (c : In-loop-i) → c.loop-i.i * c.args.block.cells + c.args.block.cells ≤ 1024
 block-ends c = omega (arith, (multiple_more c.loop-i.i (length c.args.window.now) c.args.block.cells c.loop-i-test.true).1, c.requires.room)
 
-pub overflow_add-start : goal.overflow_add-start
-overflow_add-start c = let ends = block-ends (goal.at.overflow_add-start c).In-loop-i in search rules
-
-pub offset_bounds-digits-start : goal.offset_bounds-digits-start
-offset_bounds-digits-start c = let ends = block-ends (goal.at.offset_bounds-digits-start c).In-loop-i in search rules
-
-pub slice_bounds-digits-end : goal.slice_bounds-digits-end
-slice_bounds-digits-end c = let ends = block-ends (goal.at.slice_bounds-digits-end c).In-loop-i in search rules
-
 pub loop-i-preserved : goal.loop-i-preserved
 loop-i-preserved c =
     let q = c.args.states in

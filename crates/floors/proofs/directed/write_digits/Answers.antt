@@ -6,9 +6,6 @@ use Rattle.rules.proofs.Maps.{one_more}
 use Rattle.rules.specs.TablesLemmas.{pow_more}
 use Rattle.floors.proofs.directed.write_digits.Goals as goal
 
-pub loop-cell-init : goal.loop-cell-init
-loop-cell-init c = (sym (ap (λ n. c.args.code / n) (pow-zero c.args.states) ∙ div-one c.args.code), λ k l. absurd (omega arith))
-
 pub loop-cell-preserved : goal.loop-cell-preserved
 loop-cell-preserved c =
     let q = c.args.states in

@@ -6,17 +6,6 @@ use Rattle.rules.proofs.Maps.{one_more}
 use Rattle.floors.proofs.Asking.{some-width, reads, part-readable, drop_more_set, row_done}
 use Rattle.floors.proofs.directed.DirectedRule.advance.Goals as goal
 
-pub apply-requires : goal.apply-requires
-apply-requires g c =
-    let x = c.args.self.now in
-    let o = toward x.direction (g.R.Rule.meaning x.rule.now) in
-    let w = x.width in
-    let i = c.loop-i.i in
-    let row = c.args.row.now in
-    let n : i + w - i ≡ w = omega arith in
-    let fits : i + w ≤ length row = omega (arith, c.loop-i-test.true, c.requires.fits) in
-    subst (Reads x.states o) (sym (ap₂ take n c.loop-i.invariant.1)) (reads x.states o w (part row i w) x.wide (part-readable x.states w i row fits c.requires.codes))
-
 pub loop-i-preserved : goal.loop-i-preserved
 loop-i-preserved g c =
     let x = c.args.self.now in

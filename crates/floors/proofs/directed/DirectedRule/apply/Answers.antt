@@ -17,6 +17,3 @@ stepped g c =
 
 pub unwrap-requires : goal.unwrap-requires
 unwrap-requires g c = subst (λ (r : Result ℕ RuleFault). IsOk r) (sym (stepped g c)) refl
-
-pub returns-clause-value : goal.returns-clause-value
-returns-clause-value g c = let is = sym c.unwrap.ensures ∙ stepped g (goal.at.returns-clause-value g c).After-step in cc

@@ -21,10 +21,6 @@ slice_bounds-row-end g c =
 pub slice_bounds-advance-end : goal.slice_bounds-advance-end
 slice_bounds-advance-end g c = sym (size (stepping g (goal.at.slice_bounds-advance-end g c).After-row_of-row) c.loop-left.left c.loop-left.row c.loop-left-test.true c.loop-left.auto.left c.loop-left-test.array_long c.loop-left.invariant)
 
-pub advance-requires-clause-fits : goal.advance-requires-clause-fits
-advance-requires-clause-fits g c =
-    wide (stepping g (goal.at.advance-requires-clause-fits g c).After-row_of-row) c.loop-left.left c.loop-left.row c.loop-left-test.true c.loop-left.auto.left c.loop-left-test.array_long c.loop-left.invariant
-
 pub advance-requires-clause-codes : goal.advance-requires-clause-codes
 advance-requires-clause-codes g c =
     codes (stepping g (goal.at.advance-requires-clause-codes g c).After-row_of-row) c.loop-left.left c.loop-left.row c.loop-left-test.true c.loop-left.auto.left c.loop-left-test.array_long c.loop-left.invariant

@@ -35,9 +35,6 @@ cell_is g c =
     let offset : c.from.result ≡ lo = c.from.ensures ∙ to_z-of_z w32 lo c.ranges.lo in
     c.cell_at.ensures ∙ ap (λ z. cell_at z m) (ap (λ z. to_z w64 (of_z w64 z)) offset ∙ to_z-of_z w64 lo wide) ∙ cell_at-some lo m c.args.block.some
 
-pub unwrap-skip-requires : goal.unwrap-skip-requires
-unwrap-skip-requires g c = subst (λ (o : Option ℕ). IsSome o) (sym (cell_is g c)) refl
-
 skip_is : (g : given.Over) (c : After-unwrap-skip g) → c.unwrap-skip.result ≡ floor_mod c.args.lo c.args.block.cells
 skip_is g c = let told = sym c.unwrap-skip.ensures ∙ cell_is g (goal.at.After-unwrap-skip g c).After-cell_at in cc
 
