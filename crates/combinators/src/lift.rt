@@ -125,6 +125,7 @@ impl Frame {
         requires room { length halves.old ≡ self.width }
         ensures { halves.new ≡ framed_halves self direction window.now }
     {
+        // by index, as of cells that are lent to a `zip` a proof knows nothing
         for (i, cell) in halves.iter_mut().enumerate() {
             *cell = half(direction, self.states, window[self.first + i]);
         }

@@ -48,9 +48,9 @@ fn a_lifted_rule_runs_forward_and_back(rt: HostRuntime) -> Result<(), Fail> {
 
 #[test]
 fn a_rule_that_is_too_wide_comes_back(rt: HostRuntime) -> Result<(), Fail> {
-    let Err(refused) = Lift::build(Table::new(1, 1, 64, &[0])?) else {
-        return Err(Fail::new("lifted"));
-    };
+    let refused = Lift::build(Table::new(1, 1, 64, &[0])?)
+        .err()
+        .ok_or("lifted")?;
     assert_eq!(rt; refused.fault.number(), 11);
     assert_eq!(rt; refused.fault.place(), 0);
     let shape = Shape {

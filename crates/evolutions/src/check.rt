@@ -1,6 +1,6 @@
 // Comparing an evolution with what was published.
 use crate::vectors::{Beaver, Halt, Rows, Run};
-use anyhow::{Context, anyhow};
+use anyhow::Context;
 use machines::{Configuration, Move, Turing};
 use orbits::evolve;
 use rings::Direction;
@@ -33,7 +33,7 @@ impl fmt::Display for Difference {
     }
 }
 
-// A ring, written as its codes with nothing between.
+// A ring, written as its codes with nothing between. (`worked` puts blanks between: one type for both would take them at each use.)
 #[derive(Drop)]
 struct Digits<'a>(&'a [u32]);
 
@@ -138,7 +138,7 @@ fn has_halted(ring: &[u32]) -> bool {
     ring.iter().any(|code| *code / BEAVER_SYMBOLS == HALTED + 1)
 }
 
-// The halt of the busy beaver on an empty circular tape.
+// The halt of the busy beaver on an empty circular tape, or how far it was after the most steps.
 fn run_beaver(heap: Global) -> anyhow::Result<Halt> {
     let machine = busy_beaver()?;
     let tape = vec![in heap; 0; BEAVER_CELLS]?;
@@ -156,7 +156,10 @@ fn run_beaver(heap: Global) -> anyhow::Result<Halt> {
         }
         ring = evolve(heap, &machine, Direction::Forward, &ring, 1)?;
     }
-    Err(anyhow!("the busy beaver does not halt"))
+    Ok(Halt {
+        steps: MAX_BEAVER_STEPS,
+        ones: count_ones(&ring),
+    })
 }
 
 impl Published for Beaver {

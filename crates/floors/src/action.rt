@@ -26,7 +26,7 @@ pub enum Action {
 }
 
 impl Action {
-    // The action with this number and this argument.
+    // The action with this number and this argument, the two numbers that files hold.
     pub fn new(number: u16, argument: i16) -> Result<Action, TowerFault>
         ensures answer { result ≡ action_answer number argument }
     {
@@ -44,7 +44,7 @@ impl Action {
             .ok_or(TowerFault::Rule(RuleFault::OutOfRange))
     }
 
-    // The number of the action.
+    // The number of the action, beside its argument: a conversion could give but one of the two.
     pub fn number(self) -> u16
         ensures answer { result ≡ action_number self }
     {

@@ -126,7 +126,7 @@ fn unpack(window: &[u32], states: u32, block: Block) -> [u32; MAX_DIGITS]
 {
     let size = block.cells as usize;
     let mut digits = [0; MAX_DIGITS];
-    // a loop over places: each code writes a part of the array, and of chunks that are lent to a `zip` a proof knows nothing
+    // a loop over places: each code writes a part of the array, and of parts that `chunks_mut` lends a proof knows nothing
     for (i, code) in window.iter().enumerate() {
         let start = i * size;
         write_digits(*code, states, &mut digits[start..start + size]);

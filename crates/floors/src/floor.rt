@@ -5,7 +5,7 @@ ghost use Rattle.rules.specs.Answers.{answer};
 ghost use Rattle.towers.specs.Numbers.{numbers_of};
 ghost use Rattle.towers.specs.Standing.{top_lawful};
 ghost use Rattle.floors.specs.Actions.{in_range, fits, floor_or};
-ghost use Rattle.floors.specs.Asking.{interval, packed_numbers};
+ghost use Rattle.floors.specs.Asking.{interval};
 ghost use Rattle.floors.specs.Floors.{packed_place, mirrored_place, moved_place, floor_fault};
 ghost use Rattle.floors.specs.Kinds.{floor_kind};
 ghost use Rattle.floors.specs.Laws.{FloorLaw};
@@ -58,7 +58,7 @@ impl<T: Tower> Floor<T> {
         };
         let (first, last) = interval(top, direction).ok_or(RuleFault::NoInverse)?;
         check_window(window, top.states, interval_width(first, last))?;
-        let (lo, hi) = interval(packed_numbers(self.action, below), direction).ok_or(
+        let (lo, hi) = interval(below.packed_numbers(self.action), direction).ok_or(
             RuleFault::NoInverse,
         )?;
         let rule = &DirectedRule {
@@ -128,23 +128,14 @@ impl<T: Tower> Tower for Floor<T> {
     }
 }
 
-// The ends of the interval of a direction. (Rule::interval would ask the whole tower once more for its numbers.)
+// The ends of the interval of a direction, from numbers that are known. (`Rule::interval` would ask the whole tower for them once
+// more, and of the numbers that are packed there is no rule to ask.)
 fn interval(numbers: Numbers, direction: Direction) -> Option<(i32, i32)>
     ensures { result ≡ interval direction numbers }
 {
     match direction {
         Direction::Forward => Some((numbers.lo, numbers.hi)),
         Direction::Backward => numbers.inverse,
-    }
-}
-
-// The numbers that an action packs, if it packs: reduction shifts them first.
-fn packed_numbers(action: Action, below: TowerNumbers) -> Numbers
-    ensures { result ≡ packed_numbers action below.numbers }
-{
-    match action {
-        Action::Reduce => below.shifted_to_zero(),
-        _ => below.numbers,
     }
 }
 

@@ -8,7 +8,7 @@ ghost use Rattle.towers.specs.Towers.{signed};
 ghost use Rattle.floors.specs.declared.action.Action.TheVariants.{Reduce};
 ghost use Rattle.floors.specs.Actions.{iterate_ends, shift_ends, mirror_ends, pack_ends, iterate_numbers, shift_numbers, mirror_numbers, pack_numbers, reduced_block, in_range, fits, inverse_fits, intervals_fit, within_limits};
 ghost use Rattle.floors.specs.Acting.{LawfulEnds, Workable, limited, acted};
-ghost use Rattle.floors.specs.Asking.{block_of};
+ghost use Rattle.floors.specs.Asking.{block_of, packed_numbers};
 ghost use Rattle.floors.specs.Floors.{floor_fault};
 ghost use Rattle.towers.specs.Limits.{max_block};
 ghost use Rattle.floors.specs.Limits.{max_argument, max_turn};
@@ -193,7 +193,7 @@ impl TowerNumbers {
     }
 
     // The numbers shifted so that the interval begins at 0.
-    pub(crate) fn shifted_to_zero(self) -> Numbers
+    fn shifted_to_zero(self) -> Numbers
         ensures { result ≡ shift_numbers (neg_ℤ self.numbers.lo) self.numbers }
     {
         self.shifted(-self.numbers.lo)
@@ -236,6 +236,16 @@ impl TowerNumbers {
         ensures { result ≡ reduced_block self.numbers }
     {
         (interval_width(self.numbers.lo, self.numbers.hi) as u32 - 1).max(1)
+    }
+
+    // The numbers that an action packs, if it packs: reduction shifts them first.
+    pub(crate) fn packed_numbers(self, action: Action) -> Numbers
+        ensures { result ≡ packed_numbers action self.numbers }
+    {
+        match action {
+            Action::Reduce => self.shifted_to_zero(),
+            _ => self.numbers,
+        }
     }
 
     // How many cells an action that fits packs into one; 1 where it does not pack.

@@ -48,7 +48,7 @@ impl Sizes {
         self.symbols * self.heads
     }
 
-    // The transition with this index of a machine that changes nothing. The first one is repeated behind the last.
+    // The transition with this index of a machine that changes nothing. Behind the last one, which no call reads, the first is repeated.
     pub(crate) fn idle_transition(self, index: u32) -> Transition
         ensures { result ≡ new_transition self.symbols self.heads index }
     {

@@ -58,7 +58,8 @@ pub struct Transition {
     pub next: u32,
 }
 
-// The transitions of a machine. Users ask for this form: a plain struct inside another, whose own function changes one element.
+// The transitions of a machine, in an array, as the library uses no heap. Users ask for this form: a plain struct inside another,
+// whose own function changes one element.
 #[derive(Clone, Copy)]
 pub(crate) struct Transitions {
     pub(crate) list: [Transition; MAX_TRANSITIONS],

@@ -114,9 +114,10 @@ impl Turing {
         if position >= tape.len() || state >= self.sizes.heads {
             return Err(RuleFault::OutOfRange);
         }
-        if let Some(index) = first_stray(tape, self.sizes.symbols) {
-            return Err(RuleFault::BadEntry(index));
-        }
+        first_stray(tape, self.sizes.symbols).map_or(
+            Ok(()),
+            |index| Err(RuleFault::BadEntry(index)),
+        )?;
         if room < tape.len() {
             return Err(RuleFault::ShortBuffer);
         }

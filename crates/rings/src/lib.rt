@@ -54,7 +54,8 @@ pub fn cell_at(offset: i64, cells: usize) -> Option<usize>
     Some(i128::from(offset).rem_euclid(cells as i128) as usize)
 }
 
-// How many cells an interval has, its ends given in either order.
+// How many cells an interval has, its ends given in either order. (The ends are two numbers, as in a shape; users ask for a pair only
+// where a rule tells the interval of its inverse.)
 pub fn interval_width(lo: i32, hi: i32) -> usize
     ensures { result ≡ span lo hi }
 {

@@ -1,12 +1,12 @@
 -- What a rule answers to each question.
-use Rattle.std.specs.Prelude.{ℕ, cond, List, length, ℤ, Some, None, Ok, Err, Option, Result, ◌==◌}
+use Rattle.std.specs.Prelude.{ℕ, cond, List, length, ℤ, Some, None, Ok, Err, Option, Result, ◌==◌, nat_lt}
 use Rattle.rings.specs.declared.Direction.TheVariants.{Forward, Backward}
 use Rattle.rings.specs.Ring.{first_stray}
 use Rattle.rings.specs.Local.{Local, width}
 use Rattle.rings.specs.Automaton.{Automaton, toward}
 use Rattle.rules.specs.declared.Shape.{Shape}
 use Rattle.rules.specs.declared.fault.RuleFault.{RuleFault}
-use Rattle.rules.specs.declared.fault.RuleFault.TheVariants.{StrayCode, NoInverse, WrongLength}
+use Rattle.rules.specs.declared.fault.RuleFault.TheVariants.{EmptyRing, LongRing, StrayCode, NoInverse, WrongLength}
 
 -- The number of states and the ends of the interval.
 abbrev pub shape_of : Automaton → Shape
@@ -16,6 +16,10 @@ shape_of a = record { states = a.states; lo = a.forward.lo; hi = a.forward.hi }
 abbrev pub ends : Option Local → Option (ℤ × ℤ)
 ends None = None
 ends (Some l) = Some (l.lo, l.hi)
+
+-- Why a ring of n cells is refused where `most` cells are allowed, if it is: no cell, too many cells.
+abbrev pub length_fault : ℕ → ℕ → Option RuleFault
+length_fault most n = cond (n == 0) (Some EmptyRing) (cond (nat_lt most n) (Some LongRing) None)
 
 abbrev pub unless_stray : {X : Type 0} → Option ℕ → X → Result X RuleFault
 unless_stray None r = Ok r

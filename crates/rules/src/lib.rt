@@ -15,7 +15,7 @@ mod window;
 pub use fault::RuleFault;
 pub use map::map_ring;
 pub use table::Table;
-pub use window::{check_codes, check_window};
+pub use window::{check_codes, check_length, check_window};
 
 // The number of states of a rule, and the ends of the interval of cells that it reads.
 #[derive(Clone, Copy, PartialEq, Eq, Debug)]

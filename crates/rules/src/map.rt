@@ -8,7 +8,7 @@ ghost use Rattle.rings.specs.Refusals.{outcome};
 ghost use Rattle.rules.specs.Answers.{ends};
 ghost use Rattle.rules.specs.Maps.{ring_fault, image, written_over, map_answer, map_buffer, StepLaws};
 
-use crate::{Rule, RuleFault, check_codes};
+use crate::{Rule, RuleFault, check_codes, check_length};
 use rings::{Direction, MAX_CELLS, MAX_WIDTH, cell_at, interval_width};
 
 // Room for the largest ring and the widest window, in an array: the library uses no heap.
@@ -36,12 +36,7 @@ pub fn map_ring<R: Rule>(
 fn check_ring(ring: &[u32], states: u32, room: usize) -> Result<(), RuleFault>
     ensures { result ≡ outcome (ring_fault states ring.now room) }
 {
-    if ring.is_empty() {
-        return Err(RuleFault::EmptyRing);
-    }
-    if ring.len() > MAX_CELLS {
-        return Err(RuleFault::LongRing);
-    }
+    check_length(ring, MAX_CELLS)?;
     if room < ring.len() {
         return Err(RuleFault::ShortBuffer);
     }
@@ -53,11 +48,8 @@ fn unroll(ring: &[u32], start: usize, cells: &mut [u32])
     requires { start < length ring.now }
     ensures { cells.new ≡ window (at ring.now) (pos start) (length cells.old) }
 {
-    // the place goes round by hand: of cells that `iter_mut` lends to a `zip` with a cycle, a proof knows nothing
-    let mut place = start;
-    for cell in cells.iter_mut() {
-        *cell = ring[place];
-        place = if place + 1 < ring.len() { place + 1 } else { 0 };
+    for (i, cell) in cells.iter_mut().enumerate() {
+        *cell = ring[(start + i) % ring.len()];
     }
 }
 
@@ -80,6 +72,7 @@ fn write_image<R: Rule>(
     let mut store = [0; MAX_UNROLLED];
     let unrolled = &mut store[..ring.len() + width];
     unroll(ring, start, unrolled);
+    // by index, as of cells that are lent to a `zip` a proof knows nothing
     for (i, cell) in buffer[..ring.len()].iter_mut().enumerate() {
         *cell = rule.step(direction, &unrolled[i..i + width]).unwrap();
     }

@@ -38,9 +38,7 @@ impl Table {
         if entries.len() != count as usize {
             return Err(RuleFault::WrongLength);
         }
-        if let Some(index) = first_stray(entries, states) {
-            return Err(RuleFault::BadEntry(index));
-        }
+        first_stray(entries, states).map_or(Ok(()), |index| Err(RuleFault::BadEntry(index)))?;
         Ok(Table {
             shape,
             store: padded(entries),

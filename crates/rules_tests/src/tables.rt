@@ -41,13 +41,11 @@ fn the_number_of_entries_has_bounds(rt: HostRuntime) {
 
 #[test]
 fn the_first_bad_entry_is_told(rt: HostRuntime) -> Result<(), Fail> {
-    let Err(fault) = Table::new(3, 0, 0, &[2, 3, 4]) else {
-        return Err(Fail::new("built"));
-    };
+    let fault = Table::new(3, 0, 0, &[2, 3, 4]).err().ok_or("built")?;
     assert_eq!(rt; fault.number(), 10);
     assert_eq!(rt; fault.place(), 1);
-    assert_eq!(rt; Table::new(3, 0, 0, &[2, 2, 4]).is_ok(), false);
-    assert_eq!(rt; Table::new(3, 0, 0, &[2, 0, 1]).is_ok(), true);
+    assert!(rt; !Table::new(3, 0, 0, &[2, 2, 4]).is_ok());
+    assert!(rt; Table::new(3, 0, 0, &[2, 0, 1]).is_ok());
     Ok(())
 }
 

@@ -40,7 +40,7 @@ impl Steps {
     }
 }
 
-// The caller keeps the two buffers and gives them to each call, the form that users ask for.
+// The caller keeps the two buffers and gives them to each call, the form that users ask for; so each function here takes both.
 impl<T: Tower> Run<T> {
     // A run of a tower from a bottom ring, with the encoded ring in buffer A.
     pub fn make(
@@ -188,7 +188,7 @@ impl<T: Tower> Run<T> {
         requires { move_fault direction (T.Tower.tower self.old.tower).top 1 (state_of self.old a.old b.old) ≡ None }
         ensures { InState self.new a.new b.new self.old.tower (moved direction (T.Tower.tower self.old.tower).top 1 (state_of self.old a.old b.old)) }
     {
-        // each arm has its call: of a pair of buffers that a `match` or a `swap` chooses, a proof knows nothing
+        // each arm has its call: of a pair of written buffers that a `match` or a `swap` chooses, a proof knows nothing
         match self.holder() {
             Holder::A => map_ring(&self.tower, direction, &a[..self.cells], b),
             Holder::B => map_ring(&self.tower, direction, &b[..self.cells], a),

@@ -1,4 +1,4 @@
-// Lists of calls on a run.
+// Lists of calls on a run, whose buffers are the caller's here too.
 ghost use Rattle.std.specs.Prelude.{◌≡◌, length};
 ghost use Rattle.rings.specs.Refusals.{outcome};
 ghost use Rattle.runs.specs.Calls.{call_fault, called, called_third, performed, performed_third, first_refused};

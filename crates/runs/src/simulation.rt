@@ -1,4 +1,4 @@
-// A whole simulation: a run made, a list of calls, and what it came to.
+// A whole simulation: a run made, a list of calls, and what it came to. The buffers are the caller's.
 ghost use Rattle.std.specs.Prelude.{◌≡◌};
 ghost use Rattle.runs.specs.Laws.{Apart};
 ghost use Rattle.runs.specs.Simulations.{Simulated};

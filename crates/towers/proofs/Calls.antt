@@ -7,6 +7,9 @@ use Rattle.rings.specs.Integers.{floor_mod}
 use Rattle.rings.specs.Ring.{Codes, Ring, first_stray, IsFirstStray, rotate}
 use Rattle.rings.proofs.Integers.{floor_mod_lt}
 use Rattle.rings.proofs.Ring.{is_first_stray, length-rotate, slice_index-rotate}
+use Rattle.rings.specs.Limits.{max_cells}
+use Rattle.rules.specs.Answers.{length_fault}
+use Rattle.rules.specs.declared.fault.RuleFault.{RuleFault}
 use Rattle.rules.specs.declared.fault.RuleFault.TheVariants.{EmptyRing, LongRing, ShortBuffer}
 use Rattle.towers.specs.declared.Place.{Place}
 use Rattle.towers.specs.declared.fault.TowerFault.TheVariants.{Rule, Ragged}
@@ -52,14 +55,14 @@ module _ (q m : ℕ) (d : List ℕ) (room : ℕ) (some : 1 ≤ m) where
     by None = ap (λ b. cond b (Some (Rule ShortBuffer)) None) (sym (more_than room (length d) m some))
     by (Some i) = refl
 
-  pub decode_fault_long : eqb (length d) 0 ≡ false → 2048 / m < length d → Some (Rule LongRing) ≡ decode_fault q m d room
-  decode_fault_long e l = rw e (rw (more_than 2048 (length d) m some) (rw (lt-ltb (2048 / m) (length d) l)))
-
-  pub decode_fault_else : eqb (length d) 0 ≡ false → length d ≤ 2048 / m → stray_or_short (first_stray q d) (length d * m) room ≡ decode_fault q m d room
-  decode_fault_else e l = rw e (rw (more_than 2048 (length d) m some) (rw (le-ltb (2048 / m) (length d) l)))
-
-  pub few-cells : length d ≤ 2048 / m → length d * m ≤ 2048
-  few-cells l = let k : length d * m ≤ 2048 / m * m = mul-le-mul_right m l in omega (arith, div-add-mod' 2048 m)
+  -- a top ring is refused for its length where its blocks have too many cells together
+  pub decode_fault-length : (f : RuleFault) → Some f ≡ length_fault (max_cells / m) (length d) → Some (Rule f) ≡ decode_fault q m d room
+  decode_fault-length f e = rw (more_than max_cells (length d) m some) (by (eqb (length d) 0) (ltb (max_cells / m) (length d)) e) where
+    by : (x y : Bool) → Some f ≡ cond x (Some EmptyRing) (cond y (Some LongRing) None)
+        → Some (Rule f) ≡ cond x (Some (Rule EmptyRing)) (cond y (Some (Rule LongRing)) (stray_or_short (first_stray q d) (length d * m) room))
+    by true y h = cc
+    by false true h = cc
+    by false false h = let z : ◌≡◌ {A = ℕ} 0 1 = cc in absurd (omega arith)
 
 pub record Accepted (q : ℕ) (ring : List ℕ) (cells room : ℕ) : Type 0 where
   pub codes : Codes q ring

@@ -8,7 +8,7 @@ ghost use Rattle.towers.specs.Encodings.{encode_fault, encode_answer, encode_buf
 
 use crate::{Numbers, Tower, TowerFault};
 use rings::{MAX_CELLS, cell_at};
-use rules::{RuleFault, check_codes};
+use rules::{RuleFault, check_codes, check_length};
 
 // Writes the encoding of a bottom ring into the first cells of a buffer.
 pub fn encode<T: Tower>(tower: &T, ring: &[u32], buffer: &mut [u32]) -> Result<(), TowerFault>
@@ -74,12 +74,7 @@ fn check_bottom(numbers: Numbers, ring: &[u32], room: usize) -> Result<(), Tower
     ensures { result ≡ outcome (encode_fault numbers.bottom numbers.block ring.now room) }
 {
     let block = numbers.block as usize;
-    if ring.is_empty() {
-        return Err(TowerFault::Rule(RuleFault::EmptyRing));
-    }
-    if ring.len() > MAX_CELLS {
-        return Err(TowerFault::Rule(RuleFault::LongRing));
-    }
+    check_length(ring, MAX_CELLS)?;
     if ring.len() % block != 0 {
         return Err(TowerFault::Ragged);
     }
@@ -92,12 +87,7 @@ fn check_top(numbers: Numbers, ring: &[u32], room: usize) -> Result<(), TowerFau
     ensures { result ≡ outcome (decode_fault numbers.states numbers.block ring.now room) }
 {
     let block = numbers.block as usize;
-    if ring.is_empty() {
-        return Err(TowerFault::Rule(RuleFault::EmptyRing));
-    }
-    if ring.len() > MAX_CELLS / block {
-        return Err(TowerFault::Rule(RuleFault::LongRing));
-    }
+    check_length(ring, MAX_CELLS / block)?;
     check_cells(ring, numbers.states, ring.len() * block, room)
 }
 
