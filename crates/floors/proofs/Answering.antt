@@ -179,10 +179,6 @@ pub told_some : {X E : Type 0} (o : Option X) (x : X) (e : E) → Ok x ≡ ok_or
 told_some None x e h = let z : ◌≡◌ {A = ℕ} 0 1 = cc in absurd (omega arith)
 told_some (Some y) x e h = cc
 
-pub told_none : {X E : Type 0} (o : Option X) (e f : E) → Err f ≡ ok_or o e → None ≡ o
-told_none None e f h = refl
-told_none (Some y) e f h = let z : ◌≡◌ {A = ℕ} 0 1 = cc in absurd (omega arith)
-
 -- a floor whose action acts
 
 -- what the top of a tower answers

@@ -16,7 +16,7 @@ use Rattle.rings.proofs.Line.{tabulate-same, window_same, part_of_window, period
 use Rattle.rings.proofs.Ring.{periodic_at, below_at, is_first_stray, cell_at-is}
 use Rattle.rings.proofs.Local.{length-window, codes-window, length-ring_map, ring_map-rotate}
 use Rattle.rules.specs.declared.fault.RuleFault.{RuleFault}
-use Rattle.rules.specs.declared.fault.RuleFault.TheVariants.{EmptyRing, LongRing, StrayCode, ShortBuffer, NoInverse}
+use Rattle.rules.specs.declared.fault.RuleFault.TheVariants.{EmptyRing, LongRing, StrayCode, ShortBuffer}
 use Rattle.rules.specs.Answers.{ends, answer}
 use Rattle.rings.specs.Refusals.{outcome, unless_refused}
 use Rattle.rules.specs.Maps.{ring_fault, map_fault, map_answer, image, written_over, map_buffer, StepLaw, StepLaws}
@@ -144,10 +144,6 @@ mappable q ring room = by (eqb (length ring) 0) (ltb 2048 (length ring)) (ltb ro
   by false false false None ea eb ec s h = record { some = omega (arith, eqb-false _ _ ea); few = ltb-false _ _ eb; fits = ltb-false _ _ ec; codes = s }
 
 -- what is known where the interval is
-
-pub unplaced : (q : ℕ) (o : Option Local) (ring : List ℕ) (room : ℕ) → None ≡ ends o → map_fault q o ring room ≡ Some NoInverse
-unplaced q None ring room e = refl
-unplaced q (Some l) ring room e = let z : ◌≡◌ {A = ℕ} 0 1 = cc in absurd (omega arith)
 
 pub map_fault-some : (q : ℕ) (o : Option Local) (ring : List ℕ) (room : ℕ) (lo hi : ℤ) → Some (lo, hi) ≡ ends o → map_fault q o ring room ≡ ring_fault q ring room
 map_fault-some q None ring room lo hi e = let z : ◌≡◌ {A = ℕ} 0 1 = cc in absurd (omega arith)

@@ -1,17 +1,16 @@
 -- Lemmas on tables: the index of an entry, and that a table is a lawful automaton.
-use Rattle.std.specs.Prelude.{◌≡◌, ℕ, suc, ◌+◌, ◌*◌, ◌^◌, ◌<◌, ◌≤◌, Bool, true, false, cond, List, [], ◌∷◌, ◌++◌, length, take, ℤ, pos, negsuc, ◌≤ℤ◌, is_some, Some, None, Option, int_le, slice_index, refl}
+use Rattle.std.specs.Prelude.{◌≡◌, ℕ, suc, ◌+◌, ◌*◌, ◌^◌, ◌<◌, ◌≤◌, true, false, List, [], ◌∷◌, ◌++◌, length, take, ℤ, pos, negsuc, ◌≤ℤ◌, is_some, Some, None, Option, int_le, slice_index}
 use Rattle.std.proofs.Common.{sym, ap, ◌∙◌, ⊎_elim, arith, pow-suc, add-mul, mul_assoc, mul_comm, mul-le-mul_right, add-one}
 use Rattle.std.proofs.Math.Nat.{pow-zero, pow-le-pow_right}
 use Rattle.std.proofs.lemmas.List.{length_push, take_more, length-take-le, get_or-take, get_or_past}
 use Rattle.std.proofs.lemmas.Int.{ints}
-use Rattle.std.proofs.lemmas.Bool.{leb-true, and_parts, cases_lt, true≢false, eq-eqb}
+use Rattle.std.proofs.lemmas.Bool.{leb-true, and_parts, cases_lt, true≢false}
 use Rattle.rings.specs.Ring.{Codes, first_stray, IsFirstStray}
 use Rattle.rings.specs.Local.{span}
 use Rattle.rings.specs.Automaton.{Lawful}
 use Rattle.rings.proofs.Ring.{is_first_stray}
-use Rattle.rules.specs.Tables.{entry_index, table_fits, table_fault, stored, stored_table}
+use Rattle.rules.specs.Tables.{entry_index, table_fits, stored, stored_table}
 use Rattle.rules.specs.declared.Shape.{Shape}
-use Rattle.rules.specs.declared.fault.RuleFault.TheVariants.{BadEntry}
 use Rattle.rules.specs.Windows.{Readable}
 
 -- the index of an entry
@@ -108,11 +107,6 @@ table_lawful s store fits closed =
 
 -- what a table reads at a window of its own
 module _ (s : Shape) (store ws : List ℕ) (fits : table_fits s.states s.lo s.hi ≡ true) (r : Readable s.states (span s.lo s.hi) ws) where
-  pub may_index : Codes s.states ws × ((1 ≤ s.states) × (s.states ^ length ws ≤ 1024))
-  may_index =
-      let z = sized s.states s.lo s.hi fits in
-      (r.codes, (z.some, omega (arith, z.entries, ap (λ n. s.states ^ n) r.len)))
-
   index_inside : (i : ℕ) → i ≡ entry_index s.states ws → i < s.states ^ span s.lo s.hi
   index_inside i k = omega (arith, entry_index_lt s.states ws r.codes, ap (λ n. s.states ^ n) r.len)
 
@@ -121,33 +115,3 @@ module _ (s : Shape) (store ws : List ℕ) (fits : table_fits s.states s.lo s.hi
 
   pub entry_stored : (i : ℕ) → i ≡ entry_index s.states ws → slice_index store i ≡ slice_index (stored s store) (entry_index s.states ws)
   entry_stored i k = sym (ap (λ n. slice_index (stored s store) n) (sym k) ∙ get_or-take (s.states ^ span s.lo s.hi) store i 0 (index_inside i k))
-
--- a table that was made from its entries
-
-pub record Made (q : ℕ) (lo hi : ℤ) (entries store : List ℕ) : Type 0 where
-  pub fits : table_fits q lo hi ≡ true
-  pub holds : take (q ^ span lo hi) store ≡ entries
-  pub fault : table_fault q lo hi entries ≡ None
-
-pub counted : (q : ℕ) (lo hi : ℤ) (count : ℕ) → Some count ≡ cond (table_fits q lo hi) (Some (q ^ span lo hi)) None → (table_fits q lo hi ≡ true) × (count ≡ q ^ span lo hi)
-counted q lo hi count = by (table_fits q lo hi) where
-  by : (b : Bool) → Some count ≡ cond b (Some (q ^ span lo hi)) None → (b ≡ true) × (count ≡ q ^ span lo hi)
-  by true h = (refl, cc)
-  by false h = let z : ◌≡◌ {A = ℕ} 0 1 = cc in absurd (omega arith)
-
-pub made : (q : ℕ) (lo hi : ℤ) (entries store : List ℕ) (count : ℕ) → Some count ≡ cond (table_fits q lo hi) (Some (q ^ span lo hi)) None
-    → length entries ≡ count → None ≡ first_stray q entries → take (length entries) store ≡ entries → Made q lo hi entries store
-made q lo hi entries store count k len codes front =
-    let p = counted q lo hi count k in
-    let n : length entries ≡ q ^ span lo hi = len ∙ p.1 in
-    record {
-      fits = p.0;
-      holds = ap (λ n. take n store) (sym n) ∙ front;
-      fault = rw (p.0, eq-eqb (length entries) (q ^ span lo hi) n, ← codes);
-    }
-
-pub bad_entry_fault : (q : ℕ) (lo hi : ℤ) (entries : List ℕ) (count i : ℕ) → Some count ≡ cond (table_fits q lo hi) (Some (q ^ span lo hi)) None
-    → length entries ≡ count → Some i ≡ first_stray q entries → table_fault q lo hi entries ≡ Some (BadEntry i)
-bad_entry_fault q lo hi entries count i k len codes =
-    let p = counted q lo hi count k in
-    rw (p.0, eq-eqb (length entries) (q ^ span lo hi) (len ∙ p.1), ← codes)

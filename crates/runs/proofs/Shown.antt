@@ -84,9 +84,6 @@ module _ (t : Tower) (st : Stands t) where
         ∙ after_add t.top st.top (toward_steps d n) k (t.encode c) ring_start (goes-toward d t.top n (same_way d ∙ e)) goes-top
         ∙ ap (λ z. after t.top z (t.encode c)) swap
 
-    length_start : length (t.encode c) ≡ s.cells
-    length_start = st.length_encode s.cells c w.fitting
-
     -- n steps lead to what the run shows after n steps more
     pub shows-moved : (d : Direction) (n : ℕ) → is_some (toward d t.bottom) ≡ true → Shows t c (k +ℤ toward_steps d n) (moved d t.top n s)
     shows-moved d n e =

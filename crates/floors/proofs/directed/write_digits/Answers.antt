@@ -1,5 +1,5 @@
-use Rattle.std.proofs.Common.{◌/◌, ◌%◌, ◌^◌, ◌<◌, length, sym, ap, ◌∙◌, div-one, arith}
-use native.Mathlib.Nat.{pow-zero, div-div-eq-div-mul}
+use Rattle.std.proofs.Common.{◌/◌, ◌%◌, ◌^◌, ◌<◌, length, sym, ap, ◌∙◌, arith}
+use native.Mathlib.Nat.{div-div-eq-div-mul}
 use Rattle.rings.specs.Packing.{digit}
 use Rattle.rings.proofs.Line.{is_tabulate}
 use Rattle.rules.proofs.Maps.{one_more}

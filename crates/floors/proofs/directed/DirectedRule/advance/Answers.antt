@@ -1,9 +1,9 @@
-use Rattle.std.proofs.Common.{◌≡◌, ◌+◌, ◌-◌, ◌<◌, ◌≤◌, length, take, sym, ap, ◌∙◌, subst, ap₂, arith}
+use Rattle.std.proofs.Common.{◌≡◌, ◌+◌, ◌-◌, ◌<◌, length, take, ap, ◌∙◌, ap₂, arith}
 use Rattle.std.proofs.lemmas.List.{length-set}
 use Rattle.rings.specs.Automaton.{toward}
-use Rattle.rules.specs.Steps.{value_of, Reads, part}
+use Rattle.rules.specs.Steps.{value_of, part}
 use Rattle.rules.proofs.Maps.{one_more}
-use Rattle.floors.proofs.Asking.{some-width, reads, part-readable, drop_more_set, row_done}
+use Rattle.floors.proofs.Asking.{some-width, drop_more_set, row_done}
 use Rattle.floors.proofs.directed.DirectedRule.advance.Goals as goal
 
 pub loop-i-preserved : goal.loop-i-preserved

@@ -1,6 +1,6 @@
 use Rattle.std.proofs.Common.{sym, rules}
 use Rattle.rings.specs.Automaton.{toward}
-use Rattle.floors.proofs.Asking.{Stepping, usable_as, first_row, last_row, inside, size, wide, codes, next_row}
+use Rattle.floors.proofs.Asking.{Stepping, usable_as, first_row, last_row, inside, size, codes, next_row}
 use Rattle.floors.proofs.directed.DirectedRule.iterated.Given as given
 use Rattle.floors.proofs.directed.DirectedRule.iterated.Goals as goal
 use Rattle.floors.proofs.directed.DirectedRule.iterated.Goals.{After-row_of-row}
