@@ -1,7 +1,7 @@
 // Runs a tower by a list of calls, refused ones among them, and compares what is read with the steps of the bottom rule itself.
 #![tactic(auto)]
 
-use anyhow::anyhow;
+use anyhow::ensure;
 use combinators::Lift;
 use comparisons::Totals;
 use floors::{Action, Floor};
@@ -101,9 +101,7 @@ fn run(rt: &HostRuntime) -> anyhow::Result<()> {
     show_calls(rt, &mut totals)?;
     simulate_calls(rt, &mut totals)?;
     println!(rt; "{} readings the same, {} different", totals.same, totals.different)?;
-    if !totals.all_same() {
-        return Err(anyhow!("a reading is not what it should be"));
-    }
+    ensure!(totals.all_same(), "a reading is not what it should be");
     Ok(())
 }
 
