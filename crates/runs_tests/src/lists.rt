@@ -72,14 +72,18 @@ fn check_case<T: Tower + Drop>(
     let top_steps = tower.numbers().steps as usize;
     let mut a = [9; 12];
     let mut b = [9; 12];
-    let mut third = [9; 13];
+    let mut third = [9; 12];
     let simulation = simulate(tower, &RING, case.calls, &mut a, &mut b, &mut third)?;
     let refused = simulation
         .refused
         .map(|call| (call.index, call.fault.number()));
     assert_eq!(rt; refused, case.refused);
     assert_eq!(rt; simulation.told.steps, case.steps);
-    let holder = if case.steps % 2 == 0 { Holder::A } else { Holder::B };
+    let holder = if case.steps % 2 == 0 {
+        Holder::A
+    } else {
+        Holder::B
+    };
     assert_eq!(rt; simulation.told.holder, holder);
     let direction = if case.steps < 0 {
         Direction::Backward
@@ -88,8 +92,7 @@ fn check_case<T: Tower + Drop>(
     };
     let steps = top_steps.saturating_mul(case.steps.unsigned_abs() as usize);
     let reached = evolve(heap, &lifted(), direction, &RING, steps)?;
-    assert!(rt; &third[..12] == reached.as_slice());
-    assert_eq!(rt; third[12], 9);
+    assert!(rt; third.as_slice() == reached.as_slice());
     Ok(())
 }
 
@@ -134,7 +137,12 @@ fn lists_on_a_pile_of_floors(rt: HostRuntime) -> Result<(), Fail> {
         let packed = Floor::over(ground(), Action::Pack(2));
         let mirrored = Floor::over(packed, Action::Mirror);
         let shifted = Floor::over(mirrored, Action::Shift(1));
-        check_case(&rt, rt.alloc(), Floor::over(shifted, Action::Iterate(2)), case)?;
+        check_case(
+            &rt,
+            rt.alloc(),
+            Floor::over(shifted, Action::Iterate(2)),
+            case,
+        )?;
     }
     Ok(())
 }

@@ -66,13 +66,14 @@ fn a_refused_call_changes_nothing(rt: HostRuntime) -> Result<(), Fail> {
     let mut a = [9; 3];
     let mut b = [9; 3];
     let mut third = [9; 5];
+    let mut short = [9; 1];
     let mut run = Run::make(packed(), &RING, &mut a, &b)?;
     assert_eq!(rt; a, [0, 2, 9]);
     run.advance(1, &mut a, &mut b)?;
     assert_eq!(rt; refusal(run.advance(65_537, &mut a, &mut b)), Some((6, 0)));
     assert_eq!(rt; refusal(run.back(1, &mut a, &mut b)), Some((7, 0)));
-    assert_eq!(rt; refusal(run.advance(1, &mut a[..1], &mut b)), Some((5, 0)));
-    assert_eq!(rt; refusal(run.read(&a, &b, &mut third[..3])), Some((5, 0)));
+    assert_eq!(rt; refusal(run.advance(1, &mut short, &mut b)), Some((5, 0)));
+    assert_eq!(rt; refusal(run.read(&a, &b, &mut short)), Some((5, 0)));
     let told = run.tell();
     assert_eq!(rt; told.cells, 2);
     assert_eq!(rt; told.steps, 1);

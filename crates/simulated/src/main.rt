@@ -67,7 +67,10 @@ fn show_calls(rt: &HostRuntime, totals: &mut Totals) -> anyhow::Result<()> {
         }
         let told = run.tell();
         let ring = run.present(&a, &b)?;
-        println!(rt; "  step {}, buffer {:?}: top ring {ring:?}", told.steps, told.holder)?;
+        println!(rt;
+            "  step {}, buffer {:?}: top ring {ring:?}",
+            told.steps, told.holder
+        )?;
         run.read(&a, &b, &mut third)?;
         let reached = bottom_ring(rt.alloc(), told.steps)?;
         let same = third.as_slice() == reached.as_slice();
@@ -84,9 +87,15 @@ fn simulate_calls(rt: &HostRuntime, totals: &mut Totals) -> anyhow::Result<()> {
     let mut third = [0; 12];
     let simulation = simulate(tower(), &RING, &CALLS, &mut a, &mut b, &mut third)?;
     let told = simulation.told;
-    println!(rt; "in one call: step {}, buffer {:?}", told.steps, told.holder)?;
+    println!(rt;
+        "in one call: step {}, buffer {:?}",
+        told.steps, told.holder
+    )?;
     if let Some(refused) = simulation.refused {
-        println!(rt; "  first refused call: {}, {}", refused.index, refused.fault)?;
+        println!(rt;
+            "  first refused call: {}, {}",
+            refused.index, refused.fault
+        )?;
     }
     let reached = bottom_ring(rt.alloc(), told.steps)?;
     let same = third.as_slice() == reached.as_slice();
@@ -100,7 +109,10 @@ fn run(rt: &HostRuntime) -> anyhow::Result<()> {
     println!(rt; "Rule 30 lifted, packed by 2, mirrored, two steps at once")?;
     show_calls(rt, &mut totals)?;
     simulate_calls(rt, &mut totals)?;
-    println!(rt; "{} readings the same, {} different", totals.same, totals.different)?;
+    println!(rt;
+        "{} readings the same, {} different",
+        totals.same, totals.different
+    )?;
     ensure!(totals.all_same(), "a reading is not what it should be");
     Ok(())
 }
