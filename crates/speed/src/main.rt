@@ -1,9 +1,15 @@
-// Steps rule 110 on a ring of 2,048 cells as often as its argument says, an even number. bench/run times it against the same work in C.
+// Steps rule 110 on a ring of 2,048 cells as often as its argument says, an even number; with a second argument, by a run of the rule
+// as a tower. bench/run times both against the same work in C.
 #![tactic(auto)]
 
 use rings::{Direction, MAX_CELLS};
 use rules::{RuleFault, Table, map_ring};
+use runs::Run;
 use std::env;
+use towers::Ground;
+
+// The most steps that a run makes in one call.
+const MOST_STEPS: u32 = 65_536;
 
 // The ring in `even` after so many steps, with `odd` between: how many of its cells are 1.
 // (By `orbits::evolve`, which was tried, a step took 9 in 100 longer.)
@@ -17,10 +23,25 @@ fn ones_after(
         map_ring(rule, Direction::Forward, even, odd)?;
         map_ring(rule, Direction::Forward, odd, even)?;
     }
-    Ok(
-        even.iter()
-            .fold(0u32, |ones, code| ones.saturating_add(*code)),
-    )
+    Ok(count_ones(even))
+}
+
+// How many cells of a ring of two states are 1.
+fn count_ones(ring: &[u32]) -> u32 {
+    ring.iter()
+        .fold(0u32, |ones, code| ones.saturating_add(*code))
+}
+
+// The ring in `ring` after so many steps of a run: how many of its cells are 1.
+fn ones_after_run(rule: Table, ring: &[u32], steps: u32) -> anyhow::Result<u32> {
+    let mut a = [0; MAX_CELLS];
+    let mut b = [0; MAX_CELLS];
+    let mut run = Run::make(Ground::over(rule), ring, &mut a, &b)?;
+    for _full in 0..steps / MOST_STEPS {
+        run.advance(MOST_STEPS, &mut a, &mut b)?;
+    }
+    run.advance(steps % MOST_STEPS, &mut a, &mut b)?;
+    Ok(count_ones(run.present(&a, &b)?))
 }
 
 fn run(rt: &HostRuntime) -> anyhow::Result<()> {
@@ -32,7 +53,11 @@ fn run(rt: &HostRuntime) -> anyhow::Result<()> {
     let mut even = [0; MAX_CELLS];
     let mut odd = [0; MAX_CELLS];
     even[MAX_CELLS - 1] = 1;
-    let ones = ones_after(&rule, &mut even, &mut odd, steps)?;
+    let ones = if env::args(rt)?.nth(2).is_some() {
+        ones_after_run(rule, &even, steps)?
+    } else {
+        ones_after(&rule, &mut even, &mut odd, steps)?
+    };
     println!(rt; "{ones} ones after {steps} steps")?;
     Ok(())
 }
