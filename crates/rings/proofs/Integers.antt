@@ -44,6 +44,19 @@ floor_mod_turns z k n h =
     let e : z +ℤ k *ℤ pos n ≡ (floor_div z n +ℤ k) *ℤ pos n +ℤ pos (floor_mod z n) = omega (arith, ints, floor_div_mod z n h, times_sum (floor_div z n) k n) in
     ap (λ y. floor_mod y n) e ∙ floor_mod_is (floor_div z n +ℤ k) n (floor_mod z n) (floor_mod_lt z n h)
 
+-- the next remainder: one more, or 0 at the end
+pub floor_mod_up : (z : ℤ) (n : ℕ) → floor_mod z n + 1 < n → floor_mod (z +ℤ pos 1) n ≡ floor_mod z n + 1
+floor_mod_up z n h =
+    let some : 0 < n = omega arith in
+    let e : z +ℤ pos 1 ≡ floor_div z n *ℤ pos n +ℤ pos (floor_mod z n + 1) = omega (arith, ints, floor_div_mod z n some) in
+    ap (λ y. floor_mod y n) e ∙ floor_mod_is (floor_div z n) n (floor_mod z n + 1) h
+
+pub floor_mod_round : (z : ℤ) (n : ℕ) → 0 < n → n ≤ floor_mod z n + 1 → floor_mod (z +ℤ pos 1) n ≡ 0
+floor_mod_round z n some h =
+    let last : floor_mod z n + 1 ≡ n = omega (arith, floor_mod_lt z n some) in
+    let e : z +ℤ pos 1 ≡ (floor_div z n +ℤ pos 1) *ℤ pos n +ℤ pos 0 = omega (arith, ints, floor_div_mod z n some, times_sum (floor_div z n) (pos 1) n) in
+    ap (λ y. floor_mod y n) e ∙ floor_mod_is (floor_div z n +ℤ pos 1) n 0 some
+
 -- adding multiples of the divisor adds to the quotient
 pub floor_div_turns : (z k : ℤ) (n : ℕ) → 0 < n → floor_div (z +ℤ k *ℤ pos n) n ≡ floor_div z n +ℤ k
 floor_div_turns z k n h =

@@ -21,6 +21,6 @@ max_end = pos 128
 abbrev pub max_width : ℕ
 max_width = 64
 
--- The ends of an interval are within their limits, and so is its width.
+-- The low end is not below the least, the high end not above the greatest, and the width is within its limit.
 abbrev pub ends_fit : ℤ → ℤ → Bool
 ends_fit lo hi = int_le min_end lo && (int_le hi max_end && nat_le (span lo hi) max_width)

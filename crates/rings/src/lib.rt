@@ -54,15 +54,15 @@ pub fn cell_at(offset: i64, cells: usize) -> Option<usize>
     Some(i128::from(offset).rem_euclid(cells as i128) as usize)
 }
 
-// How many cells an interval has, its ends given in either order. (The ends are two numbers, as in a shape; users ask for a pair only
-// where a rule tells the interval of its inverse.)
+// How many cells an interval has, its ends given in either order. (The ends are two numbers, as in a shape; a rule tells the ends of a
+// direction, if it has them, as a pair.)
 pub fn interval_width(lo: i32, hi: i32) -> usize
     ensures { result ≡ span lo hi }
 {
     hi.abs_diff(lo) as usize + 1
 }
 
-// Whether an interval with these ends, given in either order, is as narrow and as near as one of a rule.
+// Whether the low end is not below the least, the high end not above the greatest, and the width within its limit.
 pub fn ends_fit(lo: i32, hi: i32) -> bool
     ensures { result ≡ ends_fit lo hi }
 {

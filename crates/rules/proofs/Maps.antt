@@ -1,7 +1,7 @@
 -- Lemmas on the map of a whole ring.
 use Rattle.std.proofs.Common.{◌≡◌, ℕ, ◌+◌, ◌-◌, ◌<◌, ◌≤◌, Bool, true, false, cond, eqb, ltb, ◌≢◌, List, ◌++◌, length, get_or, take, drop, set, ℤ, pos, ◌+ℤ◌, ◌*ℤ◌, IfSome, Some, None, Ok, Option, Result, sym, refl, ap, ◌∙◌, subst, ap₂, zero-add, arith, below_more}
 use Rattle.std.specs.Option.{option_map}
-use Rattle.std.proofs.lemmas.List.{append-nil, drop_all, get_or-set_same, get_or-set_other}
+use Rattle.std.proofs.lemmas.List.{append-nil, drop_all, get_or-set_same, get_or-set_other, drop-take, take-take}
 use Rattle.std.proofs.lemmas.Int.{ints}
 use Rattle.std.proofs.lemmas.Bool.{eqb-false, ltb-false}
 use Rattle.rings.specs.declared.Direction.{Direction}
@@ -16,7 +16,7 @@ use Rattle.rings.proofs.Line.{tabulate-same, window_same, part_of_window, period
 use Rattle.rings.proofs.Ring.{periodic_at, below_at, is_first_stray, cell_at-is}
 use Rattle.rings.proofs.Local.{length-window, codes-window, length-ring_map, ring_map-rotate}
 use Rattle.rules.specs.declared.fault.RuleFault.{RuleFault}
-use Rattle.rules.specs.declared.fault.RuleFault.TheVariants.{EmptyRing, LongRing, StrayCode, ShortBuffer}
+use Rattle.rules.specs.declared.fault.RuleFault.TheVariants.{EmptyRing, LongRing, StrayCode, ShortBuffer, NoInverse}
 use Rattle.rules.specs.Answers.{ends, answer}
 use Rattle.rings.specs.Refusals.{outcome, unless_refused}
 use Rattle.rules.specs.Maps.{ring_fault, map_fault, map_answer, image, written_over, map_buffer, StepLaw, StepLaws}
@@ -44,7 +44,7 @@ abbrev second : Option (ℤ × ℤ) → ℤ
 second None = pos 0
 second (Some p) = p.1
 
-span_is : (l : Local) (lo hi : ℤ) → ends (Some l) ≡ Some (lo, hi) → width l ≡ span lo hi
+pub span_is : (l : Local) (lo hi : ℤ) → ends (Some l) ≡ Some (lo, hi) → width l ≡ span lo hi
 span_is l lo hi e = ap₂ span (ap first e) (ap second e)
 
 pub usable_narrow : (q : ℕ) (o : Option Local) (lo hi : ℤ) → Usable q o → ends o ≡ Some (lo, hi) → span lo hi ≤ 64
@@ -53,12 +53,18 @@ usable_narrow q (Some l) lo hi u e = omega (arith, u.1.narrow, span_is l lo hi e
 
 -- the windows of an unrolled ring
 
-part_of_unrolled : (c cells : List ℕ) (lo : ℤ) (i w m : ℕ) → 1 ≤ length c → i + w ≤ m → cells ≡ window (at c) (pos (floor_mod lo (length c))) m
+-- a part of the first n cells
+pub part_of_front : (n w i : ℕ) (cells : List ℕ) → i + w ≤ n → part cells i w ≡ part (take n cells) i w
+part_of_front n w i cells fits =
+    let split : n ≡ i + (n - i) = omega arith in
+    sym (ap (λ k. take w (drop i (take k cells))) split ∙ ap (take w) (drop-take i (n - i) cells) ∙ take-take w (n - i) (drop i cells) (omega arith))
+
+part_of_unrolled : (c cells : List ℕ) (lo : ℤ) (i w m : ℕ) → 1 ≤ length c → i + w ≤ m → take m cells ≡ window (at c) (pos (floor_mod lo (length c))) m
     → part cells i w ≡ window (at c) (pos i +ℤ lo) w
 part_of_unrolled c cells lo i w m some fits u =
     let n = length c in
     let start = pos (floor_mod lo n) in
-    ap (λ l. take w (drop i l)) u ∙
+    part_of_front m w i cells fits ∙ ap (λ l. take w (drop i l)) u ∙
     part_of_window (at c) start m i w fits ∙
     window_same (at c) (at c) (start +ℤ pos i) (pos i +ℤ lo) w (λ j l.
     let e : pos i +ℤ lo +ℤ pos j ≡ floor_div lo n *ℤ pos n +ℤ (start +ℤ pos i +ℤ pos j) = omega (arith, ints, floor_div_mod lo n some) in
@@ -67,10 +73,10 @@ part_of_unrolled c cells lo i w m some fits u =
 pub cell_inside : (z : ℤ) (n i : ℕ) → 1 ≤ n → Some i ≡ cell_at z n → i < n
 cell_inside z n i some e = omega (arith, cell_at-is z n i some e, floor_mod_lt z n some)
 
--- a ring unrolled from the beginning of an interval on, so far that each cell has its window
+-- a ring unrolled at the front of some cells, from the beginning of an interval on, so far that each cell has its window
 record Unrolled (c cells : List ℕ) (lo hi : ℤ) (w : ℕ) : Type 0 where
   wide : w ≡ span lo hi
-  all : cells ≡ window (at c) (pos (floor_mod lo (length c))) (length c + w)
+  all : take (length c + w) cells ≡ window (at c) (pos (floor_mod lo (length c))) (length c + w)
 
 -- what the parts of w cells of such a ring are: windows of the local function, and its values at them make the image
 pub record Windows (q : ℕ) (o : Option Local) (c cells : List ℕ) (w : ℕ) : Type 0 where
@@ -97,7 +103,7 @@ module _ (q w : ℕ) (lo hi : ℤ) (c cells : List ℕ) (r : Ring q c) (u : Unro
   }
 
 pub windows : (q : ℕ) (o : Option Local) (c cells : List ℕ) (lo hi : ℤ) (start w : ℕ) → Ring q c → ends o ≡ Some (lo, hi) → Some start ≡ cell_at lo (length c) → w ≡ span lo hi
-    → cells ≡ window (at c) (pos start) (length c + w) → Windows q o c cells w
+    → take (length c + w) cells ≡ window (at c) (pos start) (length c + w) → Windows q o c cells w
 windows q o c cells lo hi start w r e s wide u =
     let at_start : start ≡ floor_mod lo (length c) = cell_at-is lo (length c) start r.some s in
     unrolled_windows q w lo hi c cells r (record { wide = wide; all = u ∙ ap (λ p. window (at c) (pos p) (length c + w)) at_start }) o e
@@ -143,7 +149,11 @@ mappable q ring room = by (eqb (length ring) 0) (ltb 2048 (length ring)) (ltb ro
   by false false false (Some i) ea eb ec s h = let z : ◌≡◌ {A = ℕ} 0 1 = cc in absurd (omega arith)
   by false false false None ea eb ec s h = record { some = omega (arith, eqb-false _ _ ea); few = ltb-false _ _ eb; fits = ltb-false _ _ ec; codes = s }
 
--- what is known where the interval is
+-- what is known where there is an interval, and where there is none
+
+pub unplaced : (q : ℕ) (o : Option Local) (ring : List ℕ) (room : ℕ) → None ≡ ends o → map_fault q o ring room ≡ Some NoInverse
+unplaced q None ring room e = refl
+unplaced q (Some l) ring room e = let z : ◌≡◌ {A = ℕ} 0 1 = cc in absurd (omega arith)
 
 pub map_fault-some : (q : ℕ) (o : Option Local) (ring : List ℕ) (room : ℕ) (lo hi : ℤ) → Some (lo, hi) ≡ ends o → map_fault q o ring room ≡ ring_fault q ring room
 map_fault-some q None ring room lo hi e = let z : ◌≡◌ {A = ℕ} 0 1 = cc in absurd (omega arith)

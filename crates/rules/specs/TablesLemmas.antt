@@ -107,7 +107,7 @@ table_lawful s store fits closed =
 
 -- what a table reads at a window of its own
 module _ (s : Shape) (store ws : List ℕ) (fits : table_fits s.states s.lo s.hi ≡ true) (r : Readable s.states (span s.lo s.hi) ws) where
-  index_inside : (i : ℕ) → i ≡ entry_index s.states ws → i < s.states ^ span s.lo s.hi
+  pub index_inside : (i : ℕ) → i ≡ entry_index s.states ws → i < s.states ^ span s.lo s.hi
   index_inside i k = omega (arith, entry_index_lt s.states ws r.codes, ap (λ n. s.states ^ n) r.len)
 
   pub index_small : (i : ℕ) → i ≡ entry_index s.states ws → i < 1024

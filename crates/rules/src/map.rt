@@ -48,8 +48,11 @@ fn unroll(ring: &[u32], start: usize, cells: &mut [u32])
     requires { start < length ring.now }
     ensures { cells.new ≡ window (at ring.now) (pos start) (length cells.old) }
 {
-    for (i, cell) in cells.iter_mut().enumerate() {
-        *cell = ring[(start + i) % ring.len()];
+    // the place goes round by a test, as a remainder would take a division for each cell
+    let mut place = start;
+    for cell in cells.iter_mut() {
+        *cell = ring[place];
+        place = if place + 1 < ring.len() { place + 1 } else { 0 };
     }
 }
 

@@ -1,6 +1,6 @@
-use Rattle.std.proofs.Common.{◌≡◌, ℕ, ◌+◌, ◌++◌, length, drop, pos, Some, sym, ap, ◌∙◌, ap₂, subst, length-set, refl, w32, w64, SFits, rules, arith}
+use Rattle.std.proofs.Common.{◌≡◌, ℕ, ◌+◌, ◌++◌, length, take, drop, pos, Some, sym, ap, ◌∙◌, ap₂, subst, length-set, refl, w32, w64, SFits, rules, arith}
 use Rattle.std.proofs.lemmas.Int.{to_z-of_z}
-use Rattle.std.proofs.lemmas.List.{length-take-le}
+use Rattle.std.proofs.lemmas.List.{length-take-le, take_all}
 use Rattle.std.specs.Result.{IsOk}
 use Rattle.rings.proofs.Line.{is_tabulate}
 use Rattle.rings.specs.Line.{window}
@@ -14,12 +14,7 @@ use Rattle.rules.proofs.map.write_image.Goals as goal
 
 pub unroll-requires : goal.unroll-requires
 unroll-requires g c =
-    let lo = c.args.interval.0 in
-    let ring = c.args.ring.now in
-    let f : SFits w32 lo = search rules in
-    let far : SFits w64 c.from.result = search rules in
-    cell_inside lo (length ring) c.unwrap-start.result c.requires.ring.some
-    (sym c.unwrap-start.ensures ∙ c.cell_at.ensures ∙ ap (λ z. cell_at z (length ring)) (to_z-of_z w64 c.from.result far ∙ c.from.ensures ∙ to_z-of_z w32 lo f))
+    cell_inside _ (length c.args.ring.now) c.unwrap-start.result c.requires.ring.some (sym c.unwrap-start.ensures ∙ c.cell_at.ensures)
 
 pub loop-i-init : goal.loop-i-init
 loop-i-init g c =
@@ -38,7 +33,8 @@ loop-i-init g c =
     let wide : w ≡ span lo hi = c.interval_width-width.ensures ∙ ap₂ span (to_z-of_z w32 lo f) (to_z-of_z w32 hi k) in
     let narrow = usable_narrow a.states o lo hi (usable c.args.direction a (g.met.R.Rule.lawful c.args.rule.now)) c.requires.ends in
     let long : length c.unroll.new.cells ≡ length ring + w = c.unroll.auto.cells ∙ length-take-le (length ring + w) _ (omega arith) in
-    let all : c.unroll.new.cells ≡ window (at ring) (pos start) (length ring + w) = c.unroll.ensures ∙ ap (window (at ring) (pos start)) (sym c.unroll.auto.cells ∙ long) in
+    let all : take (length ring + w) c.unroll.new.cells ≡ window (at ring) (pos start) (length ring + w) =
+    take_all (length ring + w) c.unroll.new.cells (omega (arith, long)) ∙ c.unroll.ensures ∙ ap (window (at ring) (pos start)) (sym c.unroll.auto.cells ∙ long) in
     (windows a.states o ring c.unroll.new.cells lo hi start w c.requires.ring c.requires.ends begins wide all, refl, λ k h. absurd (omega arith))
 
 pub unwrap-requires : goal.unwrap-requires
