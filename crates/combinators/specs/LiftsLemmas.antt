@@ -43,7 +43,7 @@ half_lt d q x some h = grind (arith, mod-lt, div_below)
 
 -- the new code of a cell
 module _ (q f own : ℕ) (h : f < q) (l : own < q * q) where
-  rejoined_lt : (d : Direction) → rejoined d q f own < q * q
+  pub rejoined_lt : (d : Direction) → rejoined d q f own < q * q
   rejoined_lt Forward = pair_lt q _ _ (mod-lt _ (omega arith)) (mod-lt _ (omega arith))
   rejoined_lt Backward = pair_lt q _ _ (div_below own q q (omega arith) l) (mod-lt _ (omega arith))
 
@@ -210,8 +210,41 @@ shape_lift_or a = search rules
 pub inverse-lift_or : (a : Automaton) → ends (lift_or a).inverse ≡ cond (liftable (shape_of a)) (Some (hull_lo a.forward.lo, hull_hi a.forward.hi)) (ends a.inverse)
 inverse-lift_or a = search rules
 
--- what the lift of a rule reads off a window, and what it answers
-pub record LiftReading (a : Automaton) (f : Frame) (d : Direction) (ws : List ℕ) : Type 0 where
+-- what the lift of a rule reads off a window of the hull, and what it answers
+pub record LiftReading (a : Automaton) (d : Direction) (ws : List ℕ) : Type 0 where
+  pub part-inside : first_index a.forward.lo + width a.forward ≤ length ws
+  pub part-narrow : width a.forward ≤ 64
+  pub own_inside : own_index a.forward.lo < length ws
+  pub own_lt : own_code a.forward ws < a.states * a.states
+  pub part : Readable a.states (width a.forward) (halves d a.states a.forward ws)
+  pub part-answer : answer a.states (Some a.forward) (halves d a.states a.forward ws) ≡ Ok (halves_value d a.states a.forward ws)
+  pub part_lt : halves_value d a.states a.forward ws < a.states
+  pub lift-answer : answer (a.states * a.states) (toward d (lifted a)) ws ≡ Ok (rejoined d a.states (halves_value d a.states a.forward ws) (own_code a.forward ws))
+
+pub toward-lifted : (d : Direction) (a : Automaton) → toward d (lifted a) ≡ Some (lift_local d a.states a.forward)
+toward-lifted d a = search rules
+
+pub lift-reading : (a : Automaton) → Lawful a → (d : Direction) (ws : List ℕ) → Readable (a.states * a.states) (hull_span a.forward.lo a.forward.hi) ws → LiftReading a d ws
+unfolding lift_value
+lift-reading a l d ws r =
+    let q = a.states in
+    let f = a.forward in
+    let some = l.sound.some in
+    let proper = l.sound.forward in
+    let part = readable-halves d q f some proper ws r in
+    record {
+      part-inside = part-inside d q f some proper ws r;
+      part-narrow = l.bounded.forward.narrow;
+      own_inside = own_inside d q f some proper ws r;
+      own_lt = own_code_lt d q f some proper ws r;
+      part = part;
+      part-answer = checked_readable q (width f) (halves d q f ws) part (halves_value d q f ws);
+      part_lt = halves_value_lt d q f some proper ws r;
+      lift-answer = ap (λ o. answer (q * q) o ws) (toward-lifted d a) ∙ checked_readable (q * q) (hull_span f.lo f.hi) ws r (lift_value d q f ws);
+    }
+
+-- the same in the words of the frame of a rule that can be lifted
+pub record FrameReading (a : Automaton) (f : Frame) (d : Direction) (ws : List ℕ) : Type 0 where
   pub few : f.states ≤ 4096
   pub inside : f.first + f.width ≤ length ws
   pub own_lt : slice_index ws f.own < f.states * f.states
@@ -219,25 +252,19 @@ pub record LiftReading (a : Automaton) (f : Frame) (d : Direction) (ws : List �
   pub value_lt : a.forward.value (framed_halves f d ws) < f.states
   pub lift-answer : answer (lifted a).states (toward d (lifted a)) ws ≡ Ok (rejoined d f.states (a.forward.value (framed_halves f d ws)) (slice_index ws f.own))
 
-pub lift-reading : (a : Automaton) → Lawful a → liftable (shape_of a) ≡ true → (f : Frame) → f ≡ frame_of (shape_of a) → (d : Direction) (ws : List ℕ)
-    → Ok tt ≡ checked {X = Unit {0}} f.lift.states f.cells ws tt → LiftReading a f d ws
-unfolding lift_value
-lift-reading a l can f e d ws = subst (λ (f : Frame). Ok tt ≡ checked {X = Unit {0}} f.lift.states f.cells ws tt → LiftReading a f d ws) (sym e) base where
-  base : Ok tt ≡ checked {X = Unit {0}} (a.states * a.states) (hull_span a.forward.lo a.forward.hi) ws tt → LiftReading a (frame_of (shape_of a)) d ws
+pub frame-reading : (a : Automaton) → Lawful a → liftable (shape_of a) ≡ true → (f : Frame) → f ≡ frame_of (shape_of a) → (d : Direction) (ws : List ℕ)
+    → Ok tt ≡ checked {X = Unit {0}} f.lift.states f.cells ws tt → FrameReading a f d ws
+frame-reading a l can f e d ws = subst (λ (f : Frame). Ok tt ≡ checked {X = Unit {0}} f.lift.states f.cells ws tt → FrameReading a f d ws) (sym e) base where
+  base : Ok tt ≡ checked {X = Unit {0}} (a.states * a.states) (hull_span a.forward.lo a.forward.hi) ws tt → FrameReading a (frame_of (shape_of a)) d ws
   base h =
-      let q = a.states in
-      let g = a.forward in
-      let r = readable (q * q) (hull_span g.lo g.hi) ws h in
-      let some = l.sound.some in
-      let proper = l.sound.forward in
-      let lift : toward d (lifted a) ≡ Some (lift_local d q g) = search rules in
+      let r = lift-reading a l d ws (readable (a.states * a.states) (hull_span a.forward.lo a.forward.hi) ws h) in
       record {
         few = (liftable_true (shape_of a) can).few;
-        inside = part-inside d q g some proper ws r;
-        own_lt = own_code_lt d q g some proper ws r;
-        rule-answer = checked_readable q (width g) (halves d q g ws) (readable-halves d q g some proper ws r) (halves_value d q g ws);
-        value_lt = halves_value_lt d q g some proper ws r;
-        lift-answer = ap (λ o. answer (q * q) o ws) lift ∙ checked_readable (q * q) (hull_span g.lo g.hi) ws r (lift_value d q g ws);
+        inside = r.part-inside;
+        own_lt = r.own_lt;
+        rule-answer = r.part-answer;
+        value_lt = r.part_lt;
+        lift-answer = r.lift-answer;
       }
 
 -- the laws of lifting

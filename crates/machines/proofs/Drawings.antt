@@ -1,18 +1,30 @@
 -- Lemmas on the call that draws a configuration.
-use Rattle.std.proofs.Common.{◌≡◌, ℕ, ◌<◌, ◌++◌, List, length, get_or, set, drop, Some, None, sym, ap, ◌∙◌, ap₂, arith}
+use Rattle.std.proofs.Common.{◌≡◌, ℕ, ◌<◌, ◌≤◌, ◌++◌, List, length, get_or, set, drop, Some, None, sym, ap, ◌∙◌, ap₂, arith}
 use Rattle.std.proofs.lemmas.Bool.{cases_eq}
 use Rattle.std.proofs.lemmas.Bool.Decides.{nat_tests}
 use Rattle.std.proofs.lemmas.List.{length-set, get_or-set_same, get_or-set_other, set-append_left}
 use Rattle.rings.specs.Refusals.{unless_refused}
+use Rattle.rings.specs.Ring.{Codes}
 use Rattle.rings.proofs.Line.{is_tabulate, length-tabulate}
 use Rattle.rings.proofs.Ring.{is_first_stray}
 use Rattle.rules.specs.Maps.{written_over}
 use Rattle.machines.specs.Turing.{Machine, Configuration, ProperConfiguration, code_of, cell, drawing}
 use Rattle.machines.specs.Drawings.{draw_fault, draw_buffer}
 
--- a configuration that is not refused is one of the machine
+-- a configuration that is not refused
+pub record Drawable (m : Machine) (c : Configuration) (room : ℕ) : Type 0 where
+  pub state : c.state < m.heads
+  pub codes : Codes m.symbols c.tape
+  pub fits : length c.tape ≤ room
+
+pub drawable : (m : Machine) (c : Configuration) (room : ℕ) → None ≡ draw_fault m c room → Drawable m c room
+drawable m c room h = let first = is_first_stray m.symbols c.tape in grind (arith, nat_tests)
+
+-- such a configuration is one of the machine
 pub drawn_proper : (m : Machine) (c : Configuration) (room : ℕ) → None ≡ draw_fault m c room → ProperConfiguration m c
-drawn_proper m c room h = let first = is_first_stray m.symbols c.tape in grind (arith, nat_tests)
+drawn_proper m c room h =
+    let d = drawable m c room h in
+    record { tape = record { some = grind (arith, nat_tests); codes = d.codes }; position = grind (arith, nat_tests); state = d.state }
 
 -- a cell without the head has its symbol for a code
 tape_with_head : (m : Machine) (c : Configuration) → c.position < length c.tape → set c.tape c.position (code_of m.symbols (get_or c.tape c.position 0) (Some c.state)) ≡ drawing m c

@@ -44,7 +44,7 @@ head_of_code_of a y o h =
 abbrev pub Fitting : ℕ → Option ℕ → Type 0
 Fitting h o = IfSome o (λ z. z < h)
 
-fitting_or_other : (h : ℕ) (o p : Option ℕ) → Fitting h o → Fitting h p → Fitting h (option_or o p)
+pub fitting_or_other : (h : ℕ) (o p : Option ℕ) → Fitting h o → Fitting h p → Fitting h (option_or o p)
 fitting_or_other h None p f g = g
 fitting_or_other h (Some z) p f g = f
 
@@ -77,7 +77,7 @@ module _ (m : Machine) (p : ProperMachine m) where
     pub next_symbol_lt : next_symbol m x < m.symbols
     next_symbol_lt = written_lt (symbol_of m.symbols x) (head_of m.symbols x) (mod-lt x p.some_symbol) fitting_head
 
-    fitting_arriving : (v : Move) → Fitting m.heads (arriving m v x)
+    pub fitting_arriving : (v : Move) → Fitting m.heads (arriving m v x)
     fitting_arriving v = fitting_moving v (symbol_of m.symbols x) (head_of m.symbols x) (mod-lt x p.some_symbol) fitting_head
 
   pub fitting_next_head : (left own right : ℕ) → left < (turing m).states → own < (turing m).states → right < (turing m).states → Fitting m.heads (next_head m left own right)
@@ -206,7 +206,7 @@ codes_set q xs i v l codes k h =
     let old = codes k inside in
     grind (arith, get_or-set_same, get_or-set_other, cases_eq k i)
 
-step_proper : (m : Machine) → ProperMachine m → (c : Configuration) → ProperConfiguration m c → ProperConfiguration m (step m c)
+pub step_proper : (m : Machine) → ProperMachine m → (c : Configuration) → ProperConfiguration m c → ProperConfiguration m (step m c)
 step_proper m p c q =
     let y = slice_index_or c.tape c.position 0 in
     let symbol : y < m.symbols = q.tape.codes c.position q.position in

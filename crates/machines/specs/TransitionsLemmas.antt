@@ -2,11 +2,13 @@
 use Rattle.std.specs.Prelude.{◌≡◌, ℕ, ◌+◌, ◌-◌, ◌*◌, ◌/◌, ◌%◌, ◌<◌, ◌≤◌, true, List, length, Some, None, Option, slice_index_or}
 use Rattle.std.specs.List.{AllPass}
 use Rattle.std.specs.Option.{MatchOption, SomeIff}
-use Rattle.std.proofs.Common.{sym, ap, ap₂, ◌∙◌, arith, mod-lt, mod-eq_of_lt, mul_comm}
+use Rattle.std.proofs.Common.{sym, ap, ap₂, ◌∙◌, ⊎_elim, arith, mod-lt, mod-eq_of_lt, mul_comm}
 use Rattle.std.proofs.Math.Nat.{add-mul-mod_self_left, add-mul-div_left, div-eq_of_lt}
 use Rattle.std.proofs.lemmas.Nat.{div_below, mul-add-lt}
 use Rattle.std.proofs.lemmas.List.FromFn.{length-map-range_with_len, get_or-map-range_with_len}
+use Rattle.std.proofs.lemmas.List.{get_or_past}
 use Rattle.std.proofs.lemmas.List.Elements.{All-get_or, All-from_get_or}
+use Rattle.std.proofs.lemmas.Bool.{cases_lt}
 use Rattle.std.proofs.lemmas.Bool.Decides.{nat_tests}
 use Rattle.machines.specs.declared.transition.Transition.{Transition}
 use Rattle.machines.specs.Turing.{Machine, ProperMachine, code_of, symbol_of, numbered_head, acting, acts}
@@ -37,21 +39,24 @@ pub record Fitting (a h : ℕ) (t : Transition) : Type 0 where
   pub writes : t.write < a
   pub leads : t.next < h
 
-fitting : (a h : ℕ) (t : Transition) → transition_fits a h t ≡ true → Fitting a h t
+pub fitting : (a h : ℕ) (t : Transition) → transition_fits a h t ≡ true → Fitting a h t
 fitting a h t e = grind (arith, nat_tests)
 
--- a machine with a list that fits
-pub proper-listed : (a h : ℕ) (list : List Transition) → machine_fits a h ≡ true → length list ≡ max_transitions → AllPass (transition_fits a h) list → ProperMachine (listed a h list)
-proper-listed a h list fits full proper = record { some_symbol = s.some_symbol; some_head = s.some_head; writes = λ z y l k. (each z y l k).writes; leads = λ z y l k. (each z y l k).leads } where
+-- a machine with a list that fits, of any length: past its end the blank transition is read, which fits too
+pub proper-listed : (a h : ℕ) (list : List Transition) → machine_fits a h ≡ true → AllPass (transition_fits a h) list → ProperMachine (listed a h list)
+proper-listed a h list fits proper = record { some_symbol = s.some_symbol; some_head = s.some_head; writes = λ z y l k. (each (z * a + y)).writes; leads = λ z y l k. (each (z * a + y)).leads } where
   s : Sized a h
   s = sized a h fits
 
-  each : (z y : ℕ) → z < h → y < a → Fitting a h (slice_index_or list (z * a + y) blank)
-  each z y l k = fitting a h (slice_index_or list (z * a + y) blank) (All-get_or (λ t. transition_fits a h t ≡ true) list (z * a + y) blank (omega (arith, index_lt a h z y l k, s.few_transitions)) proper)
+  each : (i : ℕ) → Fitting a h (slice_index_or list i blank)
+  each i = fitting a h (slice_index_or list i blank) (⊎_elim
+      (λ l. All-get_or (λ t. transition_fits a h t ≡ true) list i blank l proper)
+      (λ l. rw (get_or_past list i blank l) (grind (arith, nat_tests)))
+      (cases_lt i (length list)))
 
 -- a new machine
 
-new_transition-fits : (a h i : ℕ) → machine_fits a h ≡ true → transition_fits a h (new_transition a h i) ≡ true
+pub new_transition-fits : (a h i : ℕ) → machine_fits a h ≡ true → transition_fits a h (new_transition a h i) ≡ true
 new_transition-fits a h i fits = let s = sized a h fits in grind (arith, nat_tests, mod-lt, div_below, mul_comm)
 
 pub length-new_list : (a h : ℕ) → length (new_list a h) ≡ max_transitions
@@ -79,7 +84,7 @@ idles_new a h fits z y k l =
 acts_none : (m : Machine) (x : ℕ) → x < m.symbols → acts m x ≡ None
 acts_none m x l = let none : x / m.symbols ≡ 0 = omega (arith, div-eq_of_lt l) in ap (λ q. acting m (symbol_of m.symbols x) (numbered_head q)) none
 
-acts_head : (a h : ℕ) (list : List Transition) (i x : ℕ) → 1 ≤ a → x ≡ i + a → acts (listed a h list) x ≡ Some (slice_index_or list i blank)
+pub acts_head : (a h : ℕ) (list : List Transition) (i x : ℕ) → 1 ≤ a → x ≡ i + a → acts (listed a h list) x ≡ Some (slice_index_or list i blank)
 acts_head a h list i x some e =
     let z = i / a in
     let y = i % a in

@@ -12,7 +12,7 @@ pub machine_sized : (t : Turing) → Sized t.sizes.symbols t.sizes.heads
 machine_sized t = sized t.sizes.symbols t.sizes.heads t.sizes.fits
 
 pub machine_proper : (t : Turing) → ProperMachine (machine_of t)
-machine_proper t = proper-listed t.sizes.symbols t.sizes.heads t.transitions.list t.sizes.fits t.full t.proper
+machine_proper t = proper-listed t.sizes.symbols t.sizes.heads t.transitions.list t.sizes.fits t.proper
 
 pub machine_lawful : (t : Turing) → Lawful (turing (machine_of t))
 machine_lawful t = turing_lawful (machine_of t) (machine_proper t) (omega (arith, states_le t.sizes.symbols t.sizes.heads t.sizes.fits))

@@ -124,7 +124,8 @@ impl Turing {
         Ok(())
     }
 
-    // The cell with this code. The code of a head's cell is greater by the number of symbols than the index of the transition.
+    // The cell with this code. Without a head the code is the symbol, told with no division; the code of a head's cell is greater by
+    // the number of symbols than the index of the transition.
     fn cell(&self, code: u32) -> Cell
         requires { IsCode self.now code }
         ensures symbol { result.symbol ≡ symbol_of self.now.sizes.symbols code }
@@ -132,7 +133,11 @@ impl Turing {
     {
         let index = code.checked_sub(self.sizes.symbols);
         Cell {
-            symbol: code % self.sizes.symbols,
+            symbol: if code < self.sizes.symbols {
+                code
+            } else {
+                code % self.sizes.symbols
+            },
             transition: index.map(|index| self.transitions.list[index as usize]),
         }
     }
