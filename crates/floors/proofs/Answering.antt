@@ -1,6 +1,6 @@
 -- Lemmas on what the top of a floor answers.
-use Rattle.std.proofs.Common.{◌≡◌, ℕ, ◌+◌, ◌-◌, ◌*◌, ◌^◌, ◌≤◌, true, ◌&&◌, ◌⊎◌, List, length, ℤ, neg_ℤ, ◌≤ℤ◌, Some, None, Ok, Err, Option, Result, sym, refl, ap, ◌∙◌, subst, ap₂, inl, inr, arith}
-use Rattle.std.proofs.lemmas.Bool.{cond-true}
+use Rattle.std.proofs.Common.{◌≡◌, ℕ, ◌+◌, ◌-◌, ◌*◌, ◌^◌, ◌≤◌, Bool, true, false, cond, ◌&&◌, ◌⊎◌, List, length, ℤ, neg_ℤ, ◌≤ℤ◌, Some, None, Ok, Err, Option, Result, sym, refl, ap, ◌∙◌, subst, ap₂, inl, inr, arith}
+use Rattle.std.proofs.lemmas.Bool.{cond-true, cond-false}
 use Rattle.std.proofs.lemmas.Int.{ints}
 use Rattle.std.specs.Option.{option_map, ok_or}
 use Rattle.rings.specs.declared.Direction.{Direction}
@@ -14,28 +14,28 @@ use Rattle.rules.specs.declared.fault.RuleFault.{RuleFault}
 use Rattle.rules.specs.declared.fault.RuleFault.TheVariants.{NoInverse}
 use Rattle.rules.specs.Answers.{ends, answer, checked}
 use Rattle.rules.specs.Steps.{value_of, Reads}
-use Rattle.rules.specs.Windows.{readable, checked_refused}
-use Rattle.rules.proofs.Maps.{Usable, usable, answer-reads}
+use Rattle.rules.specs.Windows.{readable}
+use Rattle.rules.proofs.Maps.{Usable, answer-reads}
 use Rattle.floors.specs.declared.action.Action.{Action}
 use Rattle.floors.specs.declared.action.Action.TheVariants.{Unchanged, Pack, Iterate, Shift, Mirror, Reduce}
 use Rattle.towers.specs.declared.numbers.Numbers.{Numbers}
 use Rattle.towers.specs.Towers.{Tower}
 use Rattle.towers.specs.Numbers.{numbers_of, Standing}
-use Rattle.towers.specs.Standing.{top_lawful}
 use Rattle.floors.specs.Actions.{act_on, shift_ends, act_numbers, reduced_block, in_range, fits, floor_or}
 use Rattle.floors.specs.Acting.{acted}
 use Rattle.floors.specs.Asking.{HasWidth, Packing, interval, packed_numbers, block_of}
 use Rattle.floors.specs.ActingLemmas.{ends_mapped, acted_numbers, standing_acted}
+use Rattle.floors.proofs.Asking.{reads, answer-refused, usable_top}
 use Rattle.floors.proofs.Places.{outcome_is}
 
 -- the local function that an action makes
 
 -- By how much a rotation by s moves the interval of a direction: the inverse rotates back.
-abbrev along : Direction → ℤ → ℤ
+abbrev pub along : Direction → ℤ → ℤ
 along Forward s = s
 along Backward s = neg_ℤ s
 
-abbrev acted_local : Action → Tower → Direction → Local → Local
+abbrev pub acted_local : Action → Tower → Direction → Local → Local
 acted_local Unchanged t d l = l
 acted_local (Pack m) t d l = pack_local t.top.states m l
 acted_local (Iterate u) t d l = iterate_local u l
@@ -47,11 +47,11 @@ mapped_same : (o : Option Local) → o ≡ option_map (λ l. l) o
 mapped_same None = refl
 mapped_same (Some l) = refl
 
-mapped_twice : (f g : Local → Local) (o : Option Local) → option_map f (option_map g o) ≡ option_map (λ l. f (g l)) o
+pub mapped_twice : (f g : Local → Local) (o : Option Local) → option_map f (option_map g o) ≡ option_map (λ l. f (g l)) o
 mapped_twice f g None = refl
 mapped_twice f g (Some l) = refl
 
-toward-acted : (act : Action) (t : Tower) (d : Direction) → toward d (act_on act t).top ≡ option_map (acted_local act t d) (toward d t.top)
+pub toward-acted : (act : Action) (t : Tower) (d : Direction) → toward d (act_on act t).top ≡ option_map (acted_local act t d) (toward d t.top)
 toward-acted Unchanged t Forward = refl
 toward-acted (Pack m) t Forward = refl
 toward-acted (Iterate u) t Forward = refl
@@ -66,7 +66,7 @@ toward-acted Mirror t Backward = refl
 toward-acted Reduce t Backward = mapped_twice (pack_local t.top.states (reduced_block (numbers_of t))) (shift_local (neg_ℤ (neg_ℤ t.top.forward.lo))) t.top.inverse
 
 -- the ends of the interval of a direction are those of its local function
-interval_is : (d : Direction) (t : Tower) → interval d (numbers_of t) ≡ ends (toward d t.top)
+pub interval_is : (d : Direction) (t : Tower) → interval d (numbers_of t) ≡ ends (toward d t.top)
 interval_is Forward t = refl
 interval_is Backward t = refl
 
@@ -117,27 +117,29 @@ still_ordered Reduce t d l h = omega (arith, ints, h)
 
 -- ends
 
-abbrev ends_or : ℤ × ℤ → Option (ℤ × ℤ) → ℤ × ℤ
+abbrev pub ends_or : ℤ × ℤ → Option (ℤ × ℤ) → ℤ × ℤ
 ends_or e None = e
 ends_or e (Some f) = f
 
 ends_are : (l : Local) (e : ℤ × ℤ) → Some e ≡ ends (Some l) → (l.lo, l.hi) ≡ e
 ends_are l e h = sym (ap (ends_or e) h)
 
+pub width_of : (o : Option Local) (e : ℤ × ℤ) → Some e ≡ ends o → HasWidth o (span e.0 e.1)
+width_of None e h = let z : ◌≡◌ {A = ℕ} 0 1 = cc in absurd (omega arith)
+width_of (Some l) e h = ap (λ f. span f.0 f.1) (ap (ends_or e) h)
+
 width_below : (act : Action) (t : Tower) (d : Direction) (o : Option Local) (e : ℤ × ℤ) → Some e ≡ ends (option_map (packed_local act t d) o) → HasWidth o (span e.0 e.1)
 width_below act t d None e h = let z : ◌≡◌ {A = ℕ} 0 1 = cc in absurd (omega arith)
-width_below act t d (Some l) e h = ap (λ f. span f.0 f.1) (sym (ends_are (packed_local act t d l) e h)) ∙ same_width act t d l
+width_below act t d (Some l) e h = width_of (Some (packed_local act t d l)) e h ∙ same_width act t d l
 
 -- windows
 
 -- those of an interval with the ends e
 reads_window : (q : ℕ) (o : Option Local) (e : ℤ × ℤ) (ws : List ℕ) → Some e ≡ ends o → Ok tt ≡ checked {X = Unit {0}} q (span e.0 e.1) ws tt → Reads q o ws
-reads_window q None e ws h c = let z : ◌≡◌ {A = ℕ} 0 1 = cc in absurd (omega arith)
-reads_window q (Some l) e ws h c = let r = readable q (span e.0 e.1) ws c in (r.len ∙ ap (λ f. span f.0 f.1) (sym (ends_are l e h)), r.codes)
+reads_window q o e ws h c = reads q o (span e.0 e.1) ws (width_of o e h) (readable q (span e.0 e.1) ws c)
 
 refused_window : (q : ℕ) (o : Option Local) (e : ℤ × ℤ) (ws : List ℕ) (f : RuleFault) → Some e ≡ ends o → Err f ≡ checked {X = Unit {0}} q (span e.0 e.1) ws tt → Err f ≡ answer q o ws
-refused_window q None e ws f h c = let z : ◌≡◌ {A = ℕ} 0 1 = cc in absurd (omega arith)
-refused_window q (Some l) e ws f h c = checked_refused q (span e.0 e.1) ws f (l.value ws) c ∙ ap (λ g. checked q (span g.0 g.1) ws (l.value ws)) (sym (ends_are l e h))
+refused_window q o e ws f h = answer-refused q o (span e.0 e.1) ws f (width_of o e h)
 
 short_window : (q : ℕ) (o : Option Local) (ws : List ℕ) → Usable q o → Reads q o ws → length ws ≤ 64
 short_window q None ws u r = absurd r
@@ -146,15 +148,6 @@ short_window q (Some l) ws u r = omega (arith, r.0, u.1.narrow)
 no_answer : (q : ℕ) (o : Option Local) (f h : Local → Local) (ws : List ℕ) → None ≡ ends (option_map f o) → Err NoInverse ≡ answer q (option_map h o) ws
 no_answer q None f h ws e = refl
 no_answer q (Some l) f h ws e = let z : ◌≡◌ {A = ℕ} 0 1 = cc in absurd (omega arith)
-
--- a shift keeps them, and their values
-reads_shifted : (q : ℕ) (o : Option Local) (s : ℤ) (ws : List ℕ) → Reads q (option_map (shift_local s) o) ws → Reads q o ws
-reads_shifted q None s ws r = absurd r
-reads_shifted q (Some l) s ws r = (r.0 ∙ width-shift s l, r.1)
-
-value_shifted : (o : Option Local) (s : ℤ) (ws : List ℕ) → value_of o ws ≡ value_of (option_map (shift_local s) o) ws
-value_shifted None s ws = refl
-value_shifted (Some l) s ws = refl
 
 -- blocks of m cells of the local function h l that is packed
 
@@ -179,11 +172,40 @@ pub told_some : {X E : Type 0} (o : Option X) (x : X) (e : E) → Ok x ≡ ok_or
 told_some None x e h = let z : ◌≡◌ {A = ℕ} 0 1 = cc in absurd (omega arith)
 told_some (Some y) x e h = cc
 
--- a floor whose action acts
-
 -- what the top of a tower answers
 abbrev pub top-answer : Direction → List ℕ → Tower → Result ℕ RuleFault
 top-answer d ws t = answer t.top.states (toward d t.top) ws
+
+-- a floor that answers as the tower below
+
+-- its action does not act
+rests : (act : Action) (x : Numbers) → None ≡ acted act x → (in_range act && fits act x) ≡ false
+rests act x = by (in_range act && fits act x) where
+  by : (b : Bool) → None ≡ cond b (Some (act_numbers act x)) None → b ≡ false
+  by true h = let z : ◌≡◌ {A = ℕ} 0 1 = cc in absurd (omega arith)
+  by false h = refl
+
+pub rests_below : (act : Action) (t : Tower) (d : Direction) (ws : List ℕ) (x : Numbers) → x ≡ numbers_of t → None ≡ acted act x → top-answer d ws t ≡ top-answer d ws (floor_or act t)
+rests_below act t d ws x n h = ap (top-answer d ws) (sym (cond-false _ _ _ (rests act (numbers_of t) (h ∙ ap (acted act) n))))
+
+-- shifted, a local function answers the same
+answer_shifted : (q : ℕ) (o : Option Local) (s : ℤ) (ws : List ℕ) → answer q o ws ≡ answer q (option_map (shift_local s) o) ws
+answer_shifted q None s ws = refl
+answer_shifted q (Some l) s ws = ap (λ n. checked q n ws (l.value ws)) (sym (width-shift s l))
+
+-- its action does nothing, or shifts, and acts or not
+pub keeps : (act : Action) (t : Tower) (d : Direction) (ws : List ℕ) → (act ≡ Unchanged) ⊎ ((s : ℤ) × (act ≡ Shift s)) → top-answer d ws t ≡ top-answer d ws (floor_or act t)
+keeps act t d ws is = by (in_range act && fits act (numbers_of t)) where
+  acting : (act ≡ Unchanged) ⊎ ((s : ℤ) × (act ≡ Shift s)) → top-answer d ws t ≡ top-answer d ws (act_on act t)
+  acting (inl e) = ap (λ b. top-answer d ws (act_on b t)) (sym e)
+  acting (inr (s, e)) =
+      answer_shifted t.top.states (toward d t.top) (along d s) ws ∙ ap (λ o. answer t.top.states o ws) (sym (toward-acted (Shift s) t d)) ∙ ap (λ b. top-answer d ws (act_on b t)) (sym e)
+
+  by : (b : Bool) → top-answer d ws t ≡ top-answer d ws (cond b (act_on act t) t)
+  by true = acting is
+  by false = refl
+
+-- a floor whose action acts
 
 -- the action makes the numbers y of the numbers x of the tower below, whose top is what it means as a rule
 pub record Acts (a : Automaton) (t : Tower) (act : Action) (x y : Numbers) : Type 0 where
@@ -204,7 +226,7 @@ module _ {a : Automaton} {t : Tower} {act : Action} {x y : Numbers} (floor : Act
   standing = standing_acted act t floor.standing fit
 
   usable_below : Usable x.states (toward d a)
-  usable_below = subst (λ q. Usable q (toward d a)) (sym (ap (λ z. z.states) floor.same)) (subst (λ b. Usable t.top.states (toward d b)) (sym floor.top) (usable d t.top (top_lawful t floor.standing)))
+  usable_below = subst (λ q. Usable q (toward d a)) (sym (ap (λ z. z.states) floor.same)) (subst (λ b. Usable t.top.states (toward d b)) (sym floor.top) (usable_top t d floor.standing))
 
   numbers_above : y ≡ numbers_of (act_on act t)
   numbers_above = (outcome_is act x y floor.acts).1 ∙ ap (act_numbers act) floor.same ∙ sym (acted_numbers act t)
@@ -248,7 +270,7 @@ module _ {a : Automaton} {t : Tower} {act : Action} {x y : Numbers} {d : Directi
   reads_above = reads_window (act_on act t).top.states (top_of d act t) e ws (w.found ∙ interval_above w.floor d) (w.passed ∙ ap (λ z. checked z.states (span e.0 e.1) ws tt) (numbers_above w.floor d))
 
   pub short_above : length ws ≤ 64
-  short_above = short_window (act_on act t).top.states (top_of d act t) ws (usable d (act_on act t).top (top_lawful (act_on act t) (standing w.floor d))) reads_above
+  short_above = short_window (act_on act t).top.states (top_of d act t) ws (usable_top (act_on act t) d (standing w.floor d)) reads_above
 
   answers : (v : ℕ) → v ≡ value_of (top_of d act t) ws → Ok v ≡ top-answer d ws (floor_or act t)
   answers v is = ap Ok is ∙ sym (answer-reads (act_on act t).top.states (top_of d act t) ws reads_above) ∙ told w.floor d ws
@@ -267,15 +289,6 @@ module _ {a : Automaton} {t : Tower} {act : Action} {x y : Numbers} {d : Directi
     -- where the states stay
     reads_same : (act_on other t).top.states ≡ t.top.states → Reads x.states (option_map (acted_local other t d) (toward d a)) ws
     reads_same e = subst (λ q. Reads q (option_map (acted_local other t d) (toward d a)) ws) (e ∙ sym (ap (λ z. z.states) w.floor.same)) reads_as
-
-  -- nothing, or a shift
-  pub reads_kept : (act ≡ Unchanged) ⊎ ((s : ℤ) × (act ≡ Shift s)) → Reads x.states (toward d a) ws
-  reads_kept (inl is) = subst (λ o. Reads x.states o ws) (sym (mapped_same (toward d a))) (reads_same Unchanged is refl)
-  reads_kept (inr (s, is)) = reads_shifted x.states (toward d a) (along d s) ws (reads_same (Shift s) is refl)
-
-  pub answers_kept : (act ≡ Unchanged) ⊎ ((s : ℤ) × (act ≡ Shift s)) → (v : ℕ) → v ≡ value_of (toward d a) ws → Ok v ≡ top-answer d ws (floor_or act t)
-  answers_kept (inl is) v e = answers_as Unchanged is v (e ∙ ap (λ o. value_of o ws) (mapped_same (toward d a)))
-  answers_kept (inr (s, is)) v e = answers_as (Shift s) is v (e ∙ value_shifted (toward d a) (along d s) ws)
 
   -- many steps, and a mirror
   pub reads_iterated : (u : ℕ) → act ≡ Iterate u → Reads x.states (option_map (iterate_local u) (toward d a)) ws

@@ -1,9 +1,9 @@
--- Lemmas on the arithmetic of the code: products, sums and negations that fit their type, and quotients.
+-- Lemmas on the arithmetic of the code: products, sums and negations that fit their type, and quotients and remainders.
 use Rattle.std.proofs.Common.{◌≡◌, ℕ, Bool, true, false, ◌+◌, ◌*◌, ◌^◌, ◌<◌, ◌≤◌, ℤ, pos, negsuc, ◌+ℤ◌, ◌-ℤ◌, ◌*ℤ◌, neg_ℤ, nat_abs, refl, ◌∙◌, ap₂, mul-le-mul, arith, w32, SFits, to_z, of_z, rules}
 use Rattle.std.proofs.lemmas.Int.{ints, to_z-of_z, to_z_pos}
-use Rattle.std.specs.Int.{int_div_euclid}
+use Rattle.std.specs.Int.{int_div_euclid, int_rem_euclid}
 use Rattle.towers.specs.Towers.{signed}
-use Rattle.rings.specs.Integers.{floor_div}
+use Rattle.rings.specs.Integers.{floor_div, floor_mod}
 
 -- products
 
@@ -44,7 +44,7 @@ signed_small false s small = small
 pub negation_is : (z : ℤ) → nat_abs z ≤ 128 → to_z w32 (of_z w32 (pos 0 -ℤ to_z w32 (of_z w32 z))) ≡ neg_ℤ z
 negation_is z h = omega (arith, ints)
 
--- quotients
+-- quotients and remainders
 
 -- the code's division by a positive number rounds towards minus infinity
 div_euclid_floor : (z : ℤ) (m : ℕ) → int_div_euclid z (pos m) ≡ floor_div z m
@@ -52,6 +52,15 @@ unfolding floor_div
 div_euclid_floor (pos a) m = refl
 div_euclid_floor (negsuc a) m = refl
 
--- the quotient of numbers that the code has in another form
+-- the code's remainder is from 0 on
+rem_euclid_floor : (z : ℤ) (m : ℕ) → int_rem_euclid z (pos m) ≡ pos (floor_mod z m)
+unfolding floor_mod
+rem_euclid_floor (pos a) m = refl
+rem_euclid_floor (negsuc a) m = refl
+
+-- the quotient and the remainder of numbers that the code has in another form
 pub quotient_is : (z y d r : ℤ) (m : ℕ) → r ≡ int_div_euclid y d → y ≡ z → d ≡ pos m → r ≡ floor_div z m
 quotient_is z y d r m e f h = e ∙ ap₂ int_div_euclid f h ∙ div_euclid_floor z m
+
+pub remainder_is : (z y d r : ℤ) (m : ℕ) → r ≡ int_rem_euclid y d → y ≡ z → d ≡ pos m → r ≡ pos (floor_mod z m)
+remainder_is z y d r m e f h = e ∙ ap₂ int_rem_euclid f h ∙ rem_euclid_floor z m

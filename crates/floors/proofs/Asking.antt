@@ -1,8 +1,8 @@
 -- Lemmas on the local function of a direction, applied to the windows that a floor makes.
-use Rattle.std.proofs.Common.{◌≡◌, ℕ, zero, suc, ◌+◌, ◌-◌, ◌*◌, ◌^◌, ◌<◌, ◌≤◌, List, ◌++◌, length, get_or, take, drop, set, ℤ, Some, None, Option, sym, refl, ap, ◌∙◌, subst, ap₂, mul-le-mul_right, add-mul, mul-le-mul, add-one, arith, take-add}
+use Rattle.std.proofs.Common.{◌≡◌, ℕ, zero, suc, ◌+◌, ◌-◌, ◌*◌, ◌^◌, ◌<◌, ◌≤◌, List, ◌++◌, reverse, length, get_or, take, drop, set, ℤ, Some, None, Ok, Err, Option, sym, refl, ap, ◌∙◌, subst, ap₂, mul-le-mul_right, add-mul, mul-le-mul, add-one, arith, take-add}
 use lib.Arith.{digits_div, digits_mod}
 use native.Mathlib.Nat.{pow-zero, pow-le-pow_right}
-use Rattle.std.proofs.lemmas.List.{take-append-le, length-take, length-drop, length-take-le, get_or-take, get_or-drop, drop-drop, drop-set-lt, drop-take, take-take}
+use Rattle.std.proofs.lemmas.List.{take-append-le, length-take, length-drop, length-take-le, get_or-take, get_or-drop, drop-drop, drop-set-lt, drop-take, take-take, length-reverse, get_or-reverse}
 use Rattle.std.specs.Option.{option_map}
 use Rattle.rings.specs.declared.Direction.{Direction}
 use Rattle.rings.specs.Integers.{floor_mod}
@@ -11,15 +11,21 @@ use Rattle.rings.specs.Ring.{Codes}
 use Rattle.rings.specs.Local.{Local}
 use Rattle.rings.specs.Automaton.{Automaton, Lawful, toward}
 use Rattle.rings.specs.Packing.{digit, number, unblocks}
-use Rattle.rings.specs.Transformations.{map_list_windows, iterate_value, pack_value, iterate_local}
+use Rattle.rings.specs.Transformations.{map_list_windows, iterate_value, pack_value, iterate_local, mirror_local}
 use Rattle.rings.proofs.Line.{length-tabulate, slice_index-tabulate, is_tabulate}
 use Rattle.rings.proofs.Local.{power_out}
 use Rattle.rings.proofs.Packing.{number_same, number_lt, length-unblocks, slice_index-unblocks, ring-unblocks}
-use Rattle.rings.proofs.Transformations.{width-iterate}
+use Rattle.rings.proofs.Transformations.{width-iterate, width-mirror}
+use Rattle.rules.specs.declared.fault.RuleFault.{RuleFault}
+use Rattle.rules.specs.Answers.{answer, checked}
 use Rattle.rules.specs.Steps.{value_of, Reads, part}
-use Rattle.rules.specs.Windows.{Readable}
+use Rattle.rules.specs.Windows.{Readable, readable, checked_readable, checked_refused}
 use Rattle.rules.specs.TablesLemmas.{pow_more}
-use Rattle.rules.proofs.Maps.{Usable, usable}
+use Rattle.rules.proofs.Maps.{Usable, usable, answer-reads}
+use Rattle.towers.specs.Numbers.{Standing}
+use Rattle.towers.specs.Towers.{Tower}
+use Rattle.towers.specs.Standing.{top_lawful}
+use Rattle.floors.specs.Limits.{max_digits}
 use Rattle.floors.specs.Asking.{HasWidth, Packing}
 
 -- the local function of a direction, which may be missing
@@ -27,6 +33,10 @@ use Rattle.floors.specs.Asking.{HasWidth, Packing}
 -- it is usable, with another name for the states
 pub usable_as : (q : ℕ) (d : Direction) (a : Automaton) → Lawful a → q ≡ a.states → Usable q (toward d a)
 usable_as q d a l same = subst (λ n. Usable n (toward d a)) (sym same) (usable d a l)
+
+-- a tower that stands has a usable top
+pub usable_top : (t : Tower) (d : Direction) → Standing t → Usable t.top.states (toward d t.top)
+usable_top t d s = usable d t.top (top_lawful t s)
 
 -- a window has at least one cell
 pub some-width : (o : Option Local) (w : ℕ) → HasWidth o w → 1 ≤ w
@@ -42,6 +52,18 @@ reads q (Some l) w ws h r = (r.len ∙ h, r.codes)
 pub value_lt : (q : ℕ) (o : Option Local) (ws : List ℕ) → Usable q o → Reads q o ws → value_of o ws < q
 value_lt q None ws u r = absurd r
 value_lt q (Some l) ws u r = u.0.closed ws r.0 r.1
+
+-- a window that is refused, and one that is not
+pub answer-refused : (q : ℕ) (o : Option Local) (w : ℕ) (ws : List ℕ) (f : RuleFault) → HasWidth o w → Err f ≡ checked {X = Unit {0}} q w ws tt → Err f ≡ answer q o ws
+answer-refused q None w ws f h e = absurd h
+answer-refused q (Some l) w ws f h e = checked_refused q w ws f (l.value ws) e ∙ ap (λ n. checked q n ws (l.value ws)) h
+
+pub answer-value : (q : ℕ) (o : Option Local) (w : ℕ) (ws : List ℕ) (v : ℕ) → HasWidth o w → Ok tt ≡ checked {X = Unit {0}} q w ws tt → v ≡ value_of o ws → Ok v ≡ answer q o ws
+answer-value q o w ws v h e s = ap Ok s ∙ sym (answer-reads q o ws (reads q o w ws h (readable q w ws e)))
+
+-- a checked window, with another name for the states
+pub readable-same : (p q w : ℕ) (ws : List ℕ) → p ≡ q → Ok tt ≡ checked {X = Unit {0}} p w ws tt → Readable q w ws
+readable-same p q w ws s e = subst (λ n. Readable n w ws) s (readable p w ws e)
 
 -- one multiple more, up to n of them
 pub multiple_more : (i n m : ℕ) → i < n → ((i + 1) * m ≡ i * m + m) × (i * m + m ≤ n * m)
@@ -98,6 +120,21 @@ power_more f n x = ap (λ k. power f k x) (add-one n) ∙ power_out f n x
 
 -- many steps
 
+-- a row of `count` cells, after i of t steps and before the next one
+pub record RowBefore (t w i count : ℕ) (row : List ℕ) : Type 0 where
+  pub some : 1 ≤ w
+  pub wide : w ≤ count
+  pub short : count ≤ 64
+  pub size : length (take (count - 0) row) ≡ count
+  pub next : count - (w - 1) + (i + 1) * (w - 1) ≡ t * (w - 1) + 1
+
+pub row_before : (o : Option Local) (t w i count : ℕ) (row : List ℕ) → HasWidth o w → t * (w - 1) + 1 ≤ 64 → i < t → count + i * (w - 1) ≡ t * (w - 1) + 1 → length row ≡ 64 → RowBefore t w i count row
+row_before o t w i count row h few l e long =
+    let some = some-width o w h in
+    let step = multiple_more i t (w - 1) l in
+    let n : count - 0 ≡ count = omega arith in
+    record { some = some; wide = omega (arith, step.1); short = omega arith; size = ap (λ k. length (take k row)) n ∙ length-take-le count row (omega arith); next = omega (arith, step.0, step.1) }
+
 -- a window of t steps, of at most 64 cells
 pub record Stepping (q : ℕ) (o : Option Local) (w t : ℕ) (ws : List ℕ) : Type 0 where
   pub usable : Usable q o
@@ -105,12 +142,18 @@ pub record Stepping (q : ℕ) (o : Option Local) (w t : ℕ) (ws : List ℕ) : T
   pub reads : Reads q (option_map (iterate_local t) o) ws
   pub short : length ws ≤ 64
 
--- it has the cells of all steps
+-- the windows of t steps
+pub width_iterated : (q : ℕ) (o : Option Local) (w t : ℕ) → Usable q o → HasWidth o w → HasWidth (option_map (iterate_local t) o) (t * (w - 1) + 1)
+width_iterated q None w t u h = absurd h
+width_iterated q (Some l) w t u h = ap (λ n. t * (n - 1) + 1) h ∙ sym (width-iterate t l u.0.ordered)
+
+-- one of them has the cells of all steps
 readable_iterated : (q : ℕ) (o : Option Local) (w t : ℕ) (ws : List ℕ) → Stepping q o w t ws → Readable q (t * (w - 1) + 1) ws
 readable_iterated q None w t ws s = absurd s.width
 readable_iterated q (Some l) w t ws s = record { len = s.reads.0 ∙ width-iterate t l s.usable.0.ordered ∙ ap (λ n. t * (n - 1) + 1) (sym s.width); codes = s.reads.1 }
 
-value_iterated : (o : Option Local) (w t : ℕ) (ws : List ℕ) → HasWidth o w → get_or (power (map_list_windows (value_of o) w) t ws) 0 0 ≡ value_of (option_map (iterate_local t) o) ws
+-- the code at the end of the rows
+pub value_iterated : (o : Option Local) (w t : ℕ) (ws : List ℕ) → HasWidth o w → get_or (power (map_list_windows (value_of o) w) t ws) 0 0 ≡ value_of (option_map (iterate_local t) o) ws
 unfolding iterate_value
 value_iterated None w t ws h = absurd h
 value_iterated (Some l) w t ws h = ap (λ n. iterate_value l.value n t ws) h
@@ -165,6 +208,28 @@ module _ {q : ℕ} {o : Option Local} {w t : ℕ} {ws : List ℕ} (s : Stepping 
         let turn : t - (n - 1) ≡ t - n + 1 = omega arith in
         take-append-le ((n - 1) * (w - 1) + 1) written rest (omega (arith, keeps, size, step)) ∙ ap (λ k. take k written) count ∙ e ∙ ap (map_list_windows (value_of o) w) is_now ∙
         sym (ap (λ k. power (map_list_windows (value_of o) w) k ws) turn ∙ power_more (map_list_windows (value_of o) w) (t - n) ws)
+
+-- a mirror
+
+-- the windows seen in a mirror, and the code there
+pub width-mirrored : (o : Option Local) (w : ℕ) → HasWidth o w → HasWidth (option_map mirror_local o) w
+width-mirrored None w h = absurd h
+width-mirrored (Some l) w h = h ∙ sym (width-mirror l)
+
+pub value-mirrored : (o : Option Local) (ws : List ℕ) → value_of o (reverse ws) ≡ value_of (option_map mirror_local o) ws
+value-mirrored None ws = refl
+value-mirrored (Some l) ws = refl
+
+-- a window that is reversed after it was checked
+pub readable-reverse : (q w : ℕ) (ws : List ℕ) → Readable q w ws → Readable q w (reverse ws)
+readable-reverse q w ws r = record {
+  len = length-reverse ws ∙ r.len;
+  codes = λ k l. let h : k < length ws = omega (arith, length-reverse ws) in rw (get_or-reverse ws k 0 h) (r.codes (length ws - 1 - k) (omega arith));
+}
+
+-- the window, copied to the front of a row that is then reversed
+pub reversed_front : (w : ℕ) (ws row turned : List ℕ) → length ws ≡ w → take (length ws) row ≡ ws → turned ≡ reverse (take (w - 0) row) → turned ≡ reverse ws
+reversed_front w ws row turned len front e = let n : w - 0 ≡ length ws = omega arith in e ∙ ap reverse (ap (λ k. take k row) n ∙ front)
 
 -- blocks
 
@@ -264,8 +329,41 @@ pub record Unpacking (q : ℕ) (o : Option Local) (w m : ℕ) (lo : ℤ) (ws : L
 
 module _ {q : ℕ} {o : Option Local} {w m : ℕ} {lo : ℤ} {ws : List ℕ} (u : Unpacking q o w m lo ws) where
   -- there is room for its digits
-  pub room : length ws * m ≤ 1024
+  pub room : length ws * m ≤ max_digits
   room = let most : length ws * m ≤ 64 * 16 = mul-le-mul u.packing.fits u.short in omega arith
+
+  -- the window of blocks has digits, and there is room for them
+  pub unpackable : (1 ≤ q) × (length ws * m ≤ max_digits)
+  unpackable = (u.some, room)
+
+  codes_unpacked : Codes q (unblocks q m ws)
+  codes_unpacked =
+      let one : 1 ≤ length ws = some_factor (length ws) m (omega (arith, u.packing.inside, u.positive, some-width o w u.width)) in
+      (ring-unblocks q m ws u.positive u.some one).codes
+
+  -- the window of the cell j of a block lies inside, and can be read
+  abbrev window-at : ℕ → List ℕ
+  window-at j = part (unblocks q m ws) (j + floor_mod lo m) w
+
+  pub window-inside : (j : ℕ) → j < m → j + floor_mod lo m + w ≤ length ws * m
+  window-inside j h = omega (arith, u.packing.inside)
+
+  pub window-reads : (j : ℕ) → j < m → Reads q o (window-at j)
+  window-reads j h =
+      let fits : j + floor_mod lo m + w ≤ length (unblocks q m ws) = omega (arith, window-inside j h, length-unblocks q m ws) in
+      reads q o w (window-at j) u.width (part-readable q w (j + floor_mod lo m) (unblocks q m ws) fits codes_unpacked)
+
+  -- it is found in any cells that begin with the unpacked ones
+  pub window-part : (j : ℕ) (cells : List ℕ) → j < m → take (length ws * m) cells ≡ unblocks q m ws → part cells (j + floor_mod lo m) (j + floor_mod lo m + w - (j + floor_mod lo m)) ≡ window-at j
+  window-part j cells h front =
+      let n : j + floor_mod lo m + w - (j + floor_mod lo m) ≡ w = omega arith in
+      ap (part cells (j + floor_mod lo m)) n ∙ part_of_front (length ws * m) w (j + floor_mod lo m) cells (window-inside j h) ∙ ap (λ c. part c (j + floor_mod lo m) w) front
+
+  -- the value at the window of the cell j is the digit j, so the code and the weight stay small
+  pub next_packed : (j code weight value : ℕ) (cells : List ℕ) → j < m → code ≡ number q (λ i. value_of o (window-at i)) j → weight ≡ q ^ j
+      → value ≡ value_of o (part cells (j + floor_mod lo m) (j + floor_mod lo m + w - (j + floor_mod lo m))) → take (length ws * m) cells ≡ unblocks q m ws → NextDigit q (λ i. value_of o (window-at i)) j code weight value
+  next_packed j code weight value cells h c s v front =
+      next_digit q m (λ i. value_of o (window-at i)) j code weight value u.some u.packing.few (λ i l. value_lt q o (window-at i) u.usable (window-reads i l)) h c s (v ∙ ap (value_of o) (window-part j cells h front))
 
   -- the cells under the windows of a block
   module _ (digits : List ℕ) (skip : ℕ) (s : skip ≡ floor_mod lo m) (front : take (length ws * m) digits ≡ unblocks q m ws) where
@@ -282,8 +380,7 @@ module _ {q : ℕ} {o : Option Local} {w m : ℕ} {lo : ℤ} {ws : List ℕ} (u 
 
     pub under_block : (cells : List ℕ) → cells ≡ under → Under q o w m cells
     under_block cells is =
-        let one : 1 ≤ length ws = some_factor (length ws) m (omega (arith, fits, u.positive, some-width o w u.width)) in
-        let r = part-readable q (m - 1 + w) skip (unblocks q m ws) (omega (arith, fits, length-unblocks q m ws)) (ring-unblocks q m ws u.positive u.some one).codes in
+        let r = part-readable q (m - 1 + w) skip (unblocks q m ws) (omega (arith, fits, length-unblocks q m ws)) codes_unpacked in
         subst (Under q o w m) (sym (is ∙ under_is)) (record { usable = u.usable; width = u.width; some = u.some; positive = u.positive; few = u.packing.few; size = r.len; codes = r.codes })
 
     -- the number of all digits is the value on blocks
@@ -294,3 +391,9 @@ module _ {q : ℕ} {o : Option Local} {w m : ℕ} {lo : ℤ} {ws : List ℕ} (u 
         let place : skip + i ≡ i + floor_mod lo m = omega (arith, s) in
         ap (value_of o) (ap (λ c. part c i w) (is ∙ under_is) ∙ sym (part_of_front (m - 1 + w) w i (drop skip (unblocks q m ws)) (omega (arith, l))) ∙
         ap (take w) (drop-drop i skip (unblocks q m ws) ∙ ap (λ n. drop n (unblocks q m ws)) place)))
+
+-- the answer, when all digits are there
+pub blocks-value : (o : Option Local) (q m skip w total count : ℕ) (ws : List ℕ) (code : ℕ) → Ok tt ≡ checked {X = Unit {0}} total count ws tt
+    → code ≡ number q (λ i. value_of o (part (unblocks q m ws) (i + skip) w)) m → Ok code ≡ checked total count ws (pack_value q m (value_of o) skip w ws)
+unfolding pack_value
+blocks-value o q m skip w total count ws code e v = ap Ok v ∙ sym (checked_readable total count ws (readable total count ws e) _)

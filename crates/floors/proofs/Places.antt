@@ -1,5 +1,5 @@
 -- Lemmas on the places of a floor: those of the tower below, moved.
-use Rattle.std.proofs.Common.{◌≡◌, ℕ, ◌*◌, ◌/◌, ◌%◌, ◌<◌, Bool, true, false, cond, ◌&&◌, eqb, leb, is_err, Some, None, Ok, Err, sym, refl, ap, ◌∙◌, subst, arith}
+use Rattle.std.proofs.Common.{◌≡◌, ℕ, ◌*◌, ◌/◌, ◌%◌, ◌<◌, ◌≤◌, Bool, true, false, cond, ◌&&◌, eqb, leb, is_err, Some, None, Ok, Err, sym, refl, ap, ◌∙◌, subst, arith}
 use native.Mathlib.Nat.{dvd_trans, dvd-mul_right, dvd_of_mod-eq-zero, mod-eq-zero_of_dvd}
 use Rattle.std.proofs.lemmas.Bool.{true≢false, eq-eqb, cond-true, cond-false}
 use Rattle.towers.specs.declared.Place.{Place}
@@ -10,11 +10,11 @@ use Rattle.towers.specs.declared.numbers.Numbers.{Numbers}
 use Rattle.towers.specs.Towers.{Tower}
 use Rattle.towers.specs.Numbers.{numbers_of, Standing}
 use Rattle.floors.specs.Actions.{act_on, act_numbers, in_range, fits, floor_or, reduced_block}
-use Rattle.floors.specs.Acting.{acted}
+use Rattle.floors.specs.Acting.{Workable, acted}
 use Rattle.floors.specs.Floors.{moved_place}
 use Rattle.towers.specs.Places.{place_answer}
 use Rattle.towers.proofs.Places.{answer, answered, told, place_inside}
-use Rattle.floors.specs.ActingLemmas.{acted_numbers, standing_acted}
+use Rattle.floors.specs.ActingLemmas.{acted_numbers, standing_acted, workable}
 
 -- a refusal does not depend on the place
 other_place : (b c d : Bool) (p q : Place) (f : TowerFault) → Err f ≡ answer b c d p → Err f ≡ answer b c d q
@@ -80,6 +80,10 @@ module _ (act : Action) (t : Tower) (s : Standing t) (x y : Numbers) (same : x �
   -- the place lies inside
   pub inside : (n j : ℕ) (p : Place) → Ok p ≡ place_answer t n j → (p.cell < n / x.block) × (p.digit < x.block)
   inside n j p h = subst (λ z. (p.cell < n / z.block) × (p.digit < z.block)) (sym same) (place_inside t s n j p h)
+
+  -- the numbers and the place can be moved
+  pub movable : (n j : ℕ) (p : Place) → Ok p ≡ place_answer t n j → (Workable x × (1 ≤ x.block)) × ((p.cell < n / x.block) × (p.digit < x.block))
+  movable n j p h = (subst (λ z. Workable z × (1 ≤ z.block)) (sym same) (workable t s, s.laws.block), inside n j p h)
 
   module _ (n j : ℕ) (whole : n % y.block ≡ 0) where
     whole_after : n % (act_on act t).block ≡ 0

@@ -1,8 +1,8 @@
 -- Lemmas on actions: their numbers are those of the towers that they make, and a floor over a tower that stands stands.
 use Rattle.std.specs.Prelude.{◌≡◌, ℕ, ◌^◌, ◌≤◌, Bool, true, false, cond, ◌&&◌, ℤ, ◌+ℤ◌, neg_ℤ, ◌≤ℤ◌, IfSome, Some, None, Option, int_le, nat_le, unsigned_abs, refl}
-use Rattle.std.proofs.Common.{sym, ap, subst, ◌∙◌, arith}
+use Rattle.std.proofs.Common.{sym, ap, ap₂, subst, ◌∙◌, arith}
 use Rattle.std.proofs.lemmas.Int.{ints}
-use Rattle.std.proofs.lemmas.Bool.{leb-true, le-leb, and_parts, and_from, cond_both, true≢false}
+use Rattle.std.proofs.lemmas.Bool.{leb-true, le-leb, and_parts, and_from, and_left, cond_both, cond-false, true≢false}
 use Rattle.std.specs.Option.{option_map}
 use Rattle.rings.specs.Limits.{max_states, min_end, max_end, max_width, ends_fit}
 use Rattle.rings.specs.Local.{Local, span}
@@ -17,7 +17,8 @@ use Rattle.floors.specs.Transformed.{iterate_tower, shift_tower, mirror_tower, p
 use Rattle.towers.specs.Numbers.{numbers_of, Standing}
 use Rattle.towers.specs.Limits.{max_block, max_steps, max_drift}
 use Rattle.floors.specs.Actions.{act_on, iterate_ends, shift_ends, mirror_ends, pack_ends, iterate_numbers, shift_numbers, mirror_numbers, pack_numbers, reduced_block, act_numbers, in_range, inverse_fits, intervals_fit, within_limits, reduces, fits, floor_or, floor_numbers}
-use Rattle.floors.specs.Acting.{LawfulEnds, LawfulInverse, Workable, limited, acted}
+use Rattle.floors.specs.Limits.{max_argument}
+use Rattle.floors.specs.Acting.{LawfulEnds, LawfulInverse, Packable, Workable, limited, acted}
 use Rattle.floors.specs.TransformedLemmas.{stands_iterate, stands_shift, stands_mirror, stands_pack, stands_reduce}
 
 -- the numbers of the tower that an action makes
@@ -219,8 +220,33 @@ lawful_inverse_shifted : (s : ℤ) (o : Option (ℤ × ℤ)) → LawfulInverse o
 lawful_inverse_shifted s None l h = tt
 lawful_inverse_shifted s (Some e) l h = lawful_shifted s e.0 e.1 l h
 
--- reduction
+-- shifted numbers whose intervals pass the test can be packed
+pub packable_shifted : (s : ℤ) (x y : Numbers) → Packable x → y ≡ shift_numbers s x → intervals_fit y ≡ true → Packable y
+packable_shifted s x y p e h =
+    let q = and_parts _ _ (ap intervals_fit (sym e) ∙ h) in
+    subst Packable (sym e) (record {
+      ends = lawful_shifted s x.lo x.hi p.ends q.0;
+      inverse = lawful_inverse_shifted (neg_ℤ s) x.inverse p.inverse q.1;
+      some = p.some;
+      few = p.few;
+      block = p.block;
+    })
 
+-- reduction by blocks of m cells, over the shifted numbers y
+module _ (x y : Numbers) (m : ℕ) (block : m ≡ reduced_block x) (shifted : y ≡ shift_numbers (neg_ℤ x.lo) x) where
+  abbrev answer : ℕ → Numbers → Option Numbers
+  answer n z = cond ((nat_le n max_argument && intervals_fit z) && within_limits (pack_numbers n z)) (Some (pack_numbers n z)) None
+
+  same : answer m y ≡ acted Reduce x
+  same = ap₂ answer block shifted
+
+  pub reduced_not : (nat_le m max_argument && intervals_fit y) ≡ false → None ≡ acted Reduce x
+  reduced_not h = sym (cond-false _ _ _ (and_left _ _ h)) ∙ same
+
+  pub reduced_is : (nat_le m max_argument && intervals_fit y) ≡ true → limited (pack_numbers m y) ≡ acted Reduce x
+  reduced_is h = sym (ap (λ b. cond (b && within_limits (pack_numbers m y)) (Some (pack_numbers m y)) None) h) ∙ same
+
+-- reduction of numbers that can be acted on
 module _ (x : Numbers) (w : Workable x) where
   abbrev shifted : Numbers
   shifted = shift_numbers (neg_ℤ x.lo) x
@@ -229,18 +255,7 @@ module _ (x : Numbers) (w : Workable x) where
   pub workable_shifted : within_limits shifted ≡ true → Workable shifted
   workable_shifted h =
       let p = within shifted h in
-      let fit = and_parts _ _ p.intervals in
-      record {
-        packable = record {
-          ends = lawful_shifted (neg_ℤ x.lo) x.lo x.hi w.packable.ends fit.0;
-          inverse = lawful_inverse_shifted (neg_ℤ (neg_ℤ x.lo)) x.inverse w.packable.inverse fit.1;
-          some = w.packable.some;
-          few = w.packable.few;
-          block = w.packable.block;
-        };
-        steps = w.steps;
-        drift = p.drift;
-      }
+      record { packable = packable_shifted (neg_ℤ x.lo) x shifted w.packable refl p.intervals; steps = w.steps; drift = p.drift }
 
   -- they are, if reduction fits
   within_shifted : fits Reduce x ≡ true → within_limits shifted ≡ true
@@ -249,8 +264,9 @@ module _ (x : Numbers) (w : Workable x) where
       let fit = (and_parts _ _ p.0).1 in
       within_limits_of shifted (record { states = w.packable.few; intervals = fit; block = w.packable.block; steps = w.steps; drift = (within (act_numbers Reduce x) p.1).drift })
 
-  pub reduced_not : None ≡ limited shifted → None ≡ acted Reduce x
-  reduced_not h = by (fits Reduce x) refl where
+  -- beyond the limits, reduction does not fit
+  pub shifted_not : None ≡ limited shifted → None ≡ acted Reduce x
+  shifted_not h = by (fits Reduce x) refl where
     by : (b : Bool) → fits Reduce x ≡ b → None ≡ cond b (Some (act_numbers Reduce x)) None
     by true e = absurd (true≢false (sym (within_shifted e) ∙ limited_not shifted h))
     by false e = refl

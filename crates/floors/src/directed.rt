@@ -11,14 +11,14 @@ ghost use Rattle.rings.specs.Transformations.{map_list_windows, iterate_local, m
 ghost use Rattle.rules.specs.Steps.{value_of, Reads};
 ghost use Rattle.rings.specs.Limits.{max_width};
 ghost use Rattle.floors.specs.Asking.{HasWidth, Packing};
-ghost use Rattle.floors.specs.Limits.{max_digits};
 
 use crate::action::MAX_ARGUMENT;
 use crate::numbers::Block;
 use rings::{Direction, MAX_WIDTH, cell_at};
 use rules::Rule;
 
-// Room for the digits of the widest window, in an array: the library uses no heap.
+// Room for the digits of the widest window. The library uses no heap: digits, and rows of cells, stand in arrays with room for the
+// widest window. These are lent to what writes them, since an array that a function returns is copied.
 const MAX_DIGITS: usize = MAX_WIDTH * MAX_ARGUMENT as usize;
 
 // A rule in a direction in which it goes, with its number of states and the width of its windows.
@@ -60,7 +60,8 @@ impl<R: Rule> DirectedRule<'_, R> {
         requires short { length window.now ≤ max_width }
         ensures { result ≡ value_of (option_map (iterate_local times) (toward self.now.direction (R.Rule.meaning self.now.rule.now))) window.now }
     {
-        let mut row = row_of(window);
+        let mut row = [0; MAX_WIDTH];
+        begin_row(window, &mut row);
         for left in (0..times as usize).rev() {
             self.advance(&mut row[..(left + 1) * (self.width - 1) + 1]);
         }
@@ -72,7 +73,8 @@ impl<R: Rule> DirectedRule<'_, R> {
         requires { Reads self.now.states (option_map mirror_local (toward self.now.direction (R.Rule.meaning self.now.rule.now))) window.now }
         ensures { result ≡ value_of (option_map mirror_local (toward self.now.direction (R.Rule.meaning self.now.rule.now))) window.now }
     {
-        let mut row = row_of(window);
+        let mut row = [0; MAX_WIDTH];
+        begin_row(window, &mut row);
         let turned = &mut row[..window.len()];
         turned.reverse();
         self.apply(turned)
@@ -83,7 +85,8 @@ impl<R: Rule> DirectedRule<'_, R> {
         requires { Packing self.now.states block.cells lo self.now.width (length window.now) }
         ensures { result ≡ pack_value self.now.states block.cells (value_of (toward self.now.direction (R.Rule.meaning self.now.rule.now))) (floor_mod lo block.cells) self.now.width window.now }
     {
-        let digits = unpack(window, self.states, block);
+        let mut digits = [0; MAX_DIGITS];
+        unpack(window, self.states, block, &mut digits);
         let skip = cell_at(i64::from(lo), block.cells as usize).unwrap();
         let cells = &digits[skip..skip + block.cells as usize - 1 + self.width];
         let mut code = 0;
@@ -96,14 +99,12 @@ impl<R: Rule> DirectedRule<'_, R> {
     }
 }
 
-// The window at the front of a row with room for the widest one, in an array: the library uses no heap.
-fn row_of(window: &[u32]) -> [u32; MAX_WIDTH]
-    requires { length window.now ≤ max_width }
-    ensures { take (length window.now) result ≡ window.now }
+// Writes a window over the first cells of a row.
+fn begin_row(window: &[u32], row: &mut [u32])
+    requires { length window.now ≤ length row.old }
+    ensures { take (length window.now) row.new ≡ window.now }
 {
-    let mut row = [0; MAX_WIDTH];
     row[..window.len()].copy_from_slice(window);
-    row
 }
 
 // Writes the lowest digits of a code in the base `states`, as many as there are cells.
@@ -118,18 +119,16 @@ fn write_digits(code: u32, states: u32, cells: &mut [u32])
     }
 }
 
-// The digits of each code of a window, one code after the other, at the front of room for the widest window.
-fn unpack(window: &[u32], states: u32, block: Block) -> [u32; MAX_DIGITS]
+// Writes the digits of each code of a window over the first cells, one code after the other.
+fn unpack(window: &[u32], states: u32, block: Block, cells: &mut [u32])
     requires some { 1 ≤ states }
-    requires room { length window.now * block.cells ≤ max_digits }
-    ensures { take (length window.now * block.cells) result ≡ unblocks states block.cells window.now }
+    requires room { length window.now * block.cells ≤ length cells.old }
+    ensures { take (length window.now * block.cells) cells.new ≡ unblocks states block.cells window.now }
 {
     let size = block.cells as usize;
-    let mut digits = [0; MAX_DIGITS];
-    // a loop over places: each code writes a part of the array, and of parts that `chunks_mut` lends a proof knows nothing
+    // a loop over codes: each writes a part of the cells, and of parts that `chunks_mut` lends a proof knows nothing
     for (i, code) in window.iter().enumerate() {
         let start = i * size;
-        write_digits(*code, states, &mut digits[start..start + size]);
+        write_digits(*code, states, &mut cells[start..start + size]);
     }
-    digits
 }

@@ -49,9 +49,14 @@ impl<T: Tower> Floor<T> {
     }
 
     // What the top answers in a direction: what its action makes of the top below, or the top below where it does not act.
+    #[tactic(auto, using(crate::proofs::Answering::keeps))]
     fn answer(&self, direction: Direction, window: &[u32]) -> Result<u32, RuleFault>
         ensures { result ≡ answer (floor_or self.now.action (T.Tower.tower self.now.below)).top.states (toward direction (floor_or self.now.action (T.Tower.tower self.now.below)).top) window.now }
     {
+        // a shift moves the interval alone, so the tower below answers, whether the action fits or not
+        if let Action::Unchanged | Action::Shift(_) = self.action {
+            return self.below.step(direction, window);
+        }
         let below = TowerNumbers::of(&self.below);
         let Some(top) = below.act(self.action) else {
             return self.below.step(direction, window);
@@ -68,7 +73,7 @@ impl<T: Tower> Floor<T> {
             width: interval_width(lo, hi),
         };
         Ok(match self.action {
-            Action::Unchanged | Action::Shift(_) => rule.apply(window),
+            Action::Unchanged | Action::Shift(_) => unreachable!(),
             Action::Iterate(times) => rule.iterated(times, window),
             Action::Mirror => rule.mirrored(window),
             Action::Pack(_) | Action::Reduce => rule.packed(below.block(self.action), lo, window),

@@ -40,14 +40,14 @@ skip_is g c = let told = sym c.unwrap-skip.ensures ∙ cell_is g (goal.at.After-
 
 -- what the windows go over
 cells_are : (g : given.Over) (c : After-into_iter-window-iterator g)
-    → windows_rest c.into_iter-window-iterator.result ≡ take (c.unwrap-skip.result + c.args.block.cells - 1 + c.args.self.now.width - c.unwrap-skip.result) (drop c.unwrap-skip.result c.unpack-digits.result)
+    → windows_rest c.into_iter-window-iterator.result ≡ take (c.unwrap-skip.result + c.args.block.cells - 1 + c.args.self.now.width - c.unwrap-skip.result) (drop c.unwrap-skip.result c.unpack.new.cells)
 cells_are g c = ap windows_rest c.into_iter-window-iterator.ensures.into_iter_gives ∙ c.windows-window-items.ensures.rest
 
 under : (g : given.Over) (c : After-into_iter-window-iterator g)
     → Under c.args.self.now.states (toward c.args.self.now.direction (g.R.Rule.meaning c.args.self.now.rule.now)) c.args.self.now.width c.args.block.cells (windows_rest c.into_iter-window-iterator.result)
 under g c =
     let at = goal.at.After-into_iter-window-iterator g c in
-    under_block (unpacking g at.Start) c.unpack-digits.result c.unwrap-skip.result (skip_is g at.After-unwrap-skip) c.unpack-digits.ensures (windows_rest c.into_iter-window-iterator.result) (cells_are g c)
+    under_block (unpacking g at.Start) c.unpack.new.cells c.unwrap-skip.result (skip_is g at.After-unwrap-skip) c.unpack.ensures (windows_rest c.into_iter-window-iterator.result) (cells_are g c)
 
 pub loop-window-init : goal.loop-window-init
 loop-window-init g c =
@@ -101,4 +101,4 @@ returns g c =
     let s = c.in-None.ensures.steps in
     let size = c.loop-window.invariant.1 in
     all_digits (under g at.After-into_iter-window-iterator) c.loop-window.invariant.3 (windows_rest c.loop-window.window-iterator) c.loop-window.invariant.2 (omega (arith, size, s.1.0)) ∙
-    packed_value (unpacking g at.Start) c.unpack-digits.result c.unwrap-skip.result (skip_is g at.After-unwrap-skip) c.unpack-digits.ensures (windows_rest c.into_iter-window-iterator.result) (cells_are g at.After-into_iter-window-iterator)
+    packed_value (unpacking g at.Start) c.unpack.new.cells c.unwrap-skip.result (skip_is g at.After-unwrap-skip) c.unpack.ensures (windows_rest c.into_iter-window-iterator.result) (cells_are g at.After-into_iter-window-iterator)

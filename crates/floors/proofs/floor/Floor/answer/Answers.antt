@@ -10,7 +10,7 @@ use Rattle.rules.specs.Answers.{checked}
 use Rattle.rules.specs.Steps.{value_of}
 use Rattle.floors.specs.declared.action.Action.TheVariants.{Iterate, Mirror}
 use Rattle.floors.specs.Asking.{HasWidth, interval, packed_numbers}
-use Rattle.floors.proofs.Answering.{Acts, Window, told_some, states_below, wide_below, refuses_below, refuses_window, short_above, answers_as, reads_kept, answers_kept, reads_iterated, reads_mirrored, block_asks, answers_block}
+use Rattle.floors.proofs.Answering.{Acts, Window, told_some, states_below, wide_below, refuses_below, refuses_window, short_above, answers_as, reads_iterated, reads_mirrored, block_asks, answers_block}
 use Rattle.floors.proofs.Places.{outcome_is}
 use Rattle.floors.proofs.floor.Floor.answer.Given as given
 use Rattle.floors.proofs.floor.Floor.answer.Goals as goal
@@ -78,12 +78,6 @@ invariant_of-rule g c =
     }
 
 -- the actions, one after the other
-
-pub apply-requires : goal.apply-requires
-apply-requires g c = reads_kept (window g (goal.at.apply-requires g c).In_ok-check_window) c.in-Unchanged.is
-
-pub returns-in-Unchanged : goal.returns-in-Unchanged
-returns-in-Unchanged g c = answers_kept (window g (goal.at.returns-in-Unchanged g c).In_ok-check_window) c.in-Unchanged.is c.apply.result c.apply.ensures.value
 
 pub iterated-requires : goal.iterated-requires
 iterated-requires g c =
