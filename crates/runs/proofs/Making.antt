@@ -46,7 +46,7 @@ module _ (t : Meaning) (c a : List ℕ) (room : ℕ) (h : room ≤ length a) whe
     pub cells_room : length c / t.block ≤ room
     cells_room = good.accepts.fits
 
-    length-made : length (t.encode c) ≡ length c / t.block
+    pub length-made : length (t.encode c) ≡ length c / t.block
     length-made = standing.laws.length_encode (length c / t.block) c fitting-made
 
     pub encode-written : encode_buffer t c (take room a) ++ drop room a ≡ written_over (t.encode c) a

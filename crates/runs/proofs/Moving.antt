@@ -1,5 +1,5 @@
 -- Lemmas on the steps of a run: one step after i steps is i + 1 steps, in the rings and in the buffers.
-use Rattle.std.proofs.Common.{◌≡◌, ℕ, zero, suc, ◌<◌, ◌≤◌, true, ◌≢◌, List, ◌++◌, length, take, drop, ℤ, pos, negsuc, ◌+ℤ◌, nat_abs, is_some, IfSome, IfNone, Some, None, Ok, Option, Result, IsOk, sym, refl, ap, ◌∙◌, subst, ap₂, arith, w32, w64, to_z, of_z}
+use Rattle.std.proofs.Common.{◌≡◌, ℕ, zero, suc, ◌+◌, ◌<◌, ◌≤◌, true, ◌≢◌, List, ◌++◌, length, take, drop, ℤ, pos, negsuc, ◌+ℤ◌, nat_abs, is_some, IfSome, IfNone, Some, None, Ok, Option, Result, IsOk, sym, refl, ap, ◌∙◌, subst, ap₂, arith, w32, w64, to_z, of_z}
 use Rattle.std.proofs.lemmas.List.{length-take-le, length-append, length-drop, take_at, drop_at, take-append-drop}
 use Rattle.std.proofs.lemmas.Int.{ints}
 use Rattle.std.proofs.lemmas.Bool.Decides.{nat_tests}
@@ -59,21 +59,24 @@ pub goes-toward : (d : Direction) (a : Automaton) (n : ℕ) → is_some (toward 
 goes-toward Forward a n h = tt
 goes-toward Backward a n h = goes_always a (toward_steps Backward n) h
 
-steps_more : (d : Direction) (k : ℤ) (n : ℕ) → (k +ℤ toward_steps d n) +ℤ toward_steps d 1 ≡ k +ℤ toward_steps d (suc n)
+pub toward_steps_add : (d : Direction) (m n : ℕ) → toward_steps d m +ℤ toward_steps d n ≡ toward_steps d (m + n)
+toward_steps_add Forward m n = omega (arith, ints)
+toward_steps_add Backward m n = omega (arith, ints)
+
+pub steps_more : (d : Direction) (k : ℤ) (n : ℕ) → (k +ℤ toward_steps d n) +ℤ toward_steps d 1 ≡ k +ℤ toward_steps d (suc n)
 steps_more Forward k n = omega (arith, ints)
 steps_more Backward k n = omega (arith, ints)
 
-after_none : (d : Direction) (a : Automaton) (c : List ℕ) → after a (toward_steps d 0) c ≡ c
+pub after_none : (d : Direction) (a : Automaton) (c : List ℕ) → after a (toward_steps d 0) c ≡ c
 unfolding power
 after_none Forward a c = refl
 after_none Backward a c = refl
 
-after_more : (d : Direction) (a : Automaton) → Sound a → is_some (toward d a) ≡ true → (c : List ℕ) → Ring a.states c → (i : ℕ) → after a (toward_steps d 1) (after a (toward_steps d i) c) ≡ after a (toward_steps d (suc i)) c
+pub after_more : (d : Direction) (a : Automaton) → Sound a → is_some (toward d a) ≡ true → (c : List ℕ) → Ring a.states c → (i : ℕ) → after a (toward_steps d 1) (after a (toward_steps d i) c) ≡ after a (toward_steps d (suc i)) c
 after_more d a sound goes c ring i =
-    after_add a sound (toward_steps d 1) (toward_steps d i) c ring (goes-toward d a 1 goes) (goes-toward d a i goes) ∙ ap (λ z. after a z c) (one_more d) where
-      one_more : (d : Direction) → toward_steps d 1 +ℤ toward_steps d i ≡ toward_steps d (suc i)
-      one_more Forward = omega (arith, ints)
-      one_more Backward = omega (arith, ints)
+    let e : 1 + i ≡ suc i = omega arith in
+    after_add a sound (toward_steps d 1) (toward_steps d i) c ring (goes-toward d a 1 goes) (goes-toward d a i goes)
+    ∙ ap (λ z. after a z c) (toward_steps_add d 1 i ∙ ap (toward_steps d) e)
 
 -- a run by its parts
 
@@ -86,7 +89,7 @@ stored k z e h = omega (arith, ints)
 
 -- the buffer that holds the ring
 
-abbrev other : Holder → Holder
+abbrev pub other : Holder → Holder
 other A = B
 other B = A
 
@@ -94,7 +97,7 @@ pub no_steps : (d : Direction) (k : ℤ) → k +ℤ toward_steps d 0 ≡ k
 no_steps Forward k = omega (arith, ints)
 no_steps Backward k = omega (arith, ints)
 
-holder_next : (d : Direction) (k : ℤ) → holder (k +ℤ toward_steps d 1) ≡ other (holder k)
+pub holder_next : (d : Direction) (k : ℤ) → holder (k +ℤ toward_steps d 1) ≡ other (holder k)
 holder_next Forward k = grind (arith, ints, nat_tests)
 holder_next Backward k = grind (arith, ints, nat_tests)
 
@@ -107,7 +110,7 @@ pub written_twice : (cells others buffer : List ℕ) → length cells ≡ length
 written_twice cells others buffer e =
     ap (λ l. cells ++ l) (drop_at others (drop (length others) buffer) (length cells) (sym e) ∙ ap (λ m. drop m buffer) (sym e))
 
-written_front : (n : ℕ) (buffer : List ℕ) → n ≤ length buffer → written_over (take n buffer) buffer ≡ buffer
+pub written_front : (n : ℕ) (buffer : List ℕ) → n ≤ length buffer → written_over (take n buffer) buffer ≡ buffer
 written_front n buffer h = ap (λ m. take n buffer ++ drop m buffer) (length-take-le n buffer h) ∙ take-append-drop n buffer
 
 pub length-written : (cells buffer : List ℕ) → length cells ≤ length buffer → length (written_over cells buffer) ≡ length buffer
@@ -125,20 +128,17 @@ length-held s room = length-take-le s.cells (of_holder s.steps s.a s.b) (by (hol
   by A = room.a
   by B = room.b
 
-held-holding : (k : ℤ) (ring earlier : List ℕ) (s : State) → length ring ≡ s.cells → held (holding k ring earlier s) ≡ ring
+pub held-holding : (k : ℤ) (ring earlier : List ℕ) (s : State) → length ring ≡ s.cells → held (holding k ring earlier s) ≡ ring
 held-holding k ring earlier s e = by (holder k) where
   by : (h : Holder) → take s.cells (of_buffer h (written_over (of_buffer h ring earlier) s.a) (written_over (of_buffer h earlier ring) s.b)) ≡ ring
   by A = take-written s.cells ring s.a e
   by B = take-written s.cells ring s.b e
 
-roomy-holding : (k : ℤ) (ring earlier : List ℕ) (s : State) → Roomy s → length ring ≡ s.cells → length earlier ≡ s.cells → Roomy (holding k ring earlier s)
-roomy-holding k ring earlier s room e f =
-    let in_a : length (of_holder k ring earlier) ≡ s.cells = length-of_buffer (holder k) ring earlier s.cells e f in
-    let in_b : length (of_holder k earlier ring) ≡ s.cells = length-of_buffer (holder k) earlier ring s.cells f e in
-    record {
-      a = omega (arith, room.a, in_a, length-written (of_holder k ring earlier) s.a (omega (arith, room.a, in_a)));
-      b = omega (arith, room.b, in_b, length-written (of_holder k earlier ring) s.b (omega (arith, room.b, in_b)));
-    }
+-- each buffer keeps its length
+pub length-holding : (h : Holder) (k : ℤ) (ring earlier : List ℕ) (s : State) → Roomy s → length ring ≡ s.cells → length earlier ≡ s.cells
+    → length (of_buffer h (holding k ring earlier s).a (holding k ring earlier s).b) ≡ length (of_buffer h s.a s.b)
+length-holding A k ring earlier s room e f = length-written (of_holder k ring earlier) s.a (omega (arith, room.a, length-of_buffer (holder k) ring earlier s.cells e f))
+length-holding B k ring earlier s room e f = length-written (of_holder k earlier ring) s.b (omega (arith, room.b, length-of_buffer (holder k) earlier ring s.cells f e))
 
 -- what is held anew leaves nothing of what was held before
 pub holding_twice : (z k : ℤ) (x y v w : List ℕ) (s : State) → length x ≡ s.cells → length y ≡ s.cells → length v ≡ s.cells → length w ≡ s.cells → holding z x y (holding k v w s) ≡ holding z x y s
@@ -160,7 +160,7 @@ steps-moved d a zero s = sym (no_steps d s.steps)
 steps-moved d a (suc m) s = refl
 
 module _ (d : Direction) (a : Automaton) (s : State) (room : Roomy s) where
-  length-steps : (m : ℕ) → length (after a (toward_steps d m) (held s)) ≡ s.cells
+  pub length-steps : (m : ℕ) → length (after a (toward_steps d m) (held s)) ≡ s.cells
   length-steps m = length-after a (toward_steps d m) (held s) ∙ length-held s room
 
   pub held_moved : (i : ℕ) → held (moved d a i s) ≡ after a (toward_steps d i) (held s)
@@ -168,10 +168,14 @@ module _ (d : Direction) (a : Automaton) (s : State) (room : Roomy s) where
   held_moved zero = sym (after_none d a (held s))
   held_moved (suc m) = held-holding (s.steps +ℤ toward_steps d (suc m)) (after a (toward_steps d (suc m)) (held s)) (after a (toward_steps d m) (held s)) s (length-steps (suc m))
 
-  pub roomy-moved : (i : ℕ) → Roomy (moved d a i s)
+  -- each buffer keeps its length
+  pub length_moved : (h : Holder) (i : ℕ) → length (of_buffer h (moved d a i s).a (moved d a i s).b) ≡ length (of_buffer h s.a s.b)
   unfolding moved
-  roomy-moved zero = room
-  roomy-moved (suc m) = roomy-holding (s.steps +ℤ toward_steps d (suc m)) (after a (toward_steps d (suc m)) (held s)) (after a (toward_steps d m) (held s)) s room (length-steps (suc m)) (length-steps m)
+  length_moved h zero = refl
+  length_moved h (suc m) = length-holding h (s.steps +ℤ toward_steps d (suc m)) (after a (toward_steps d (suc m)) (held s)) (after a (toward_steps d m) (held s)) s room (length-steps (suc m)) (length-steps m)
+
+  pub roomy-moved : (i : ℕ) → Roomy (moved d a i s)
+  roomy-moved i = record { a = omega (arith, room.a, length_moved A i, cells-moved d a i s); b = omega (arith, room.b, length_moved B i, cells-moved d a i s) }
 
 -- one step, as the code makes it: from the buffer that holds the ring into the other
 
@@ -225,10 +229,14 @@ module _ (d : Direction) (a : Automaton) (s : State) (some : 1 ≤ s.cells) (few
 
 -- steps that nothing refuses
 
-module _ (d : Direction) (a : Automaton) (sound : Sound a) (n : ℕ) (s : State) (some : 1 ≤ s.cells) (near : nat_abs s.steps ≤ max_steps) (m : Movable d a n s) where
-  ring-held : Ring a.states (held s)
+module _ (d : Direction) (a : Automaton) (sound : Sound a) (n : ℕ) (s : State) (some : 1 ≤ s.cells) (m : Movable d a n s) where
+  pub ring-held : Ring a.states (held s)
   ring-held = record { some = omega (arith, length-held s m.room); codes = m.codes }
 
+  pub codes-moved : (i : ℕ) → Codes a.states (held (moved d a i s))
+  codes-moved i = subst (Codes a.states) (sym (held_moved d a s m.room i)) (ring-after a sound (toward_steps d i) (held s) ring-held).codes
+
+module _ (d : Direction) (a : Automaton) (sound : Sound a) (n : ℕ) (s : State) (some : 1 ≤ s.cells) (near : nat_abs s.steps ≤ max_steps) (m : Movable d a n s) where
   -- one step more
   pub moved_more : (i : ℕ) → moved d a 1 (moved d a i s) ≡ moved d a (suc i) s
   unfolding moved
@@ -237,7 +245,7 @@ module _ (d : Direction) (a : Automaton) (sound : Sound a) (n : ℕ) (s : State)
       let before = moved d a (suc j) s in
       let ring = held_moved d a s m.room (suc j) in
       let count : (s.steps +ℤ toward_steps d (suc j)) +ℤ toward_steps d 1 ≡ s.steps +ℤ toward_steps d (suc (suc j)) = steps_more d s.steps (suc j) in
-      let next : after a (toward_steps d 1) (held before) ≡ after a (toward_steps d (suc (suc j))) (held s) = ap (after a (toward_steps d 1)) ring ∙ after_more d a sound m.goes (held s) ring-held (suc j) in
+      let next : after a (toward_steps d 1) (held before) ≡ after a (toward_steps d (suc (suc j))) (held s) = ap (after a (toward_steps d 1)) ring ∙ after_more d a sound m.goes (held s) (ring-held d a sound n s some m) (suc j) in
       let now : after a (toward_steps d 0) (held before) ≡ after a (toward_steps d (suc j)) (held s) = after_none d a (held before) ∙ ring in
       ap (λ k. holding k (after a (toward_steps d 1) (held before)) (after a (toward_steps d 0) (held before)) before) count
       ∙ ap₂ (λ x y. holding (s.steps +ℤ toward_steps d (suc (suc j))) x y before) next now
@@ -249,7 +257,7 @@ module _ (d : Direction) (a : Automaton) (sound : Sound a) (n : ℕ) (s : State)
     room = roomy-moved d a s m.room i;
     few = omega arith;
     near = rw (steps-moved d a i s) (between d m.near);
-    codes = subst (Codes a.states) (sym (held_moved d a s m.room i)) (ring-after a sound (toward_steps d i) (held s) ring-held).codes;
+    codes = codes-moved d a sound n s some m i;
   }) where
     between : (d : Direction) → nat_abs (s.steps +ℤ toward_steps d n) ≤ max_steps → nat_abs ((s.steps +ℤ toward_steps d i) +ℤ toward_steps d 1) ≤ max_steps
     between Forward e = omega (arith, ints)

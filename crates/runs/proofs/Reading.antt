@@ -1,6 +1,6 @@
 -- Lemmas on reading a run.
 use Rattle.std.proofs.Common.{◌≡◌, ℕ, ◌*◌, ◌/◌, ◌<◌, ◌≤◌, false, cond, ltb, ◌≢◌, List, length, ℤ, ◌*ℤ◌, neg_ℤ, Some, None, Err, Option, Result, sym, refl, ap, ◌∙◌, ap₂, arith}
-use Rattle.std.proofs.lemmas.Bool.{lt-ltb, le-ltb, ne_eqb}
+use Rattle.std.proofs.lemmas.Bool.{le-ltb, ne_eqb}
 use Rattle.std.specs.Option.{option_map}
 use Rattle.rings.specs.Ring.{first_stray, rotate}
 use Rattle.rings.specs.Refusals.{outcome, unless_refused}
@@ -18,7 +18,7 @@ use Rattle.runs.specs.declared.fault.RunFault.TheVariants.{Tower as Refused}
 use Rattle.runs.specs.States.{State, held}
 use Rattle.runs.specs.Calls.{rule_fault, refused_if, stray_fault, present_fault, read_fault, reading, read_buffer}
 use Rattle.runs.specs.Laws.{Shows, bottom_after, ReadLaw}
-use Rattle.runs.proofs.Refusals.{roomy, not_short}
+use Rattle.runs.proofs.Refusals.{roomy, read_fault-short, read_fault_room}
 use Rattle.runs.proofs.Moving.{length-held}
 use Rattle.runs.proofs.Shown.{call_fault-shown}
 
@@ -55,27 +55,25 @@ only_stray None cells room e = ap (λ x. option_map Refused (cond x (Some (Rule 
 only_stray (Some i) cells room e = refl
 
 module _ (t : Tower) (st : Stands t) (s : State) (third : List ℕ) (presents : present_fault s ≡ None) (block : ℕ) (is_block : block ≡ t.block) where
-  more : ltb (length third) (s.cells * t.block) ≡ ltb (length third / block) s.cells
-  more = more_than (length third) s.cells t.block st.block ∙ ap (λ m. ltb (length third / m) s.cells) (sym is_block)
-
   pub read_short : length third / block < s.cells → (r : Result (Unit {0}) RunFault) → r ≡ Err (rule_fault ShortBuffer) → ReadDone t s third third r
   read_short h r answer =
-      let fault : read_fault t s (length third) ≡ Some (rule_fault ShortBuffer) = rw (not_short s (roomy s presents)) (rw (more ∙ lt-ltb (length third / block) s.cells h)) in
-      read_done t st s third third r (Some (rule_fault ShortBuffer)) fault answer refl
+      let short : length third / t.block < s.cells = omega (arith, ap (λ m. length third / m) is_block, h) in
+      read_done t st s third third r (Some (rule_fault ShortBuffer)) (read_fault-short t s (length third) st.block presents short) answer refl
 
-  -- what decoding the held ring answers, the reading answers
+  -- what decoding the held ring answers, the reading answers; where that is no refusal, the ring was turned back
   pub read_decoded : (ring : List ℕ) → ring ≡ held s → 1 ≤ s.cells → s.cells ≤ length third / block → (o : Option TowerFault) → o ≡ rotated_fault t.top.states t.block ring (length third)
-      → (z : ℤ) → z ≡ neg_ℤ (t.drift *ℤ s.steps) → (after_third : List ℕ) → after_third ≡ rotated_buffer t ring z third
+      → (z : ℤ) → (o ≡ None → z ≡ neg_ℤ (t.drift *ℤ s.steps)) → (after_third : List ℕ) → after_third ≡ rotated_buffer t ring z third
       → (r : Result (Unit {0}) RunFault) → r ≡ outcome (option_map Refused o) → ReadDone t s third after_third r
   read_decoded ring held-ring some room o fault z turn after_third buffer r answer =
-      let fits : ltb (length third) (s.cells * t.block) ≡ false = more ∙ le-ltb (length third / block) s.cells room in
+      let wide : s.cells ≤ length third / t.block = omega (arith, ap (λ m. length third / m) is_block, room) in
+      let fits : ltb (length third) (s.cells * t.block) ≡ false = more_than (length third) s.cells t.block st.block ∙ le-ltb (length third / t.block) s.cells wide in
       let size : length ring ≡ s.cells = ap length held-ring ∙ length-held s (roomy s presents) in
       let ne : length ring ≢ 0 = omega (arith, size) in
-      let read : read_fault t s (length third) ≡ stray_fault (first_stray t.top.states (held s)) = rw (not_short s (roomy s presents)) (rw fits) in
+      let read = read_fault_room t s (length third) st.block presents wide in
       let decoded : option_map Refused (rotated_fault t.top.states t.block ring (length third)) ≡ stray_fault (first_stray t.top.states ring) =
       rw (ne_eqb (length ring) 0 ne) (only_stray (first_stray t.top.states ring) (length ring * t.block) (length third) (ap (λ n. ltb (length third) (n * t.block)) size ∙ fits)) in
       read_done t st s third after_third r (option_map Refused o) (read ∙ ap (λ l. stray_fault (first_stray t.top.states l)) (sym held-ring) ∙ sym decoded ∙ ap (option_map Refused) (sym fault)) answer
-      (buffer ∙ ap₂ (λ f y. unless_refused f (written_over (rotate y (t.decode ring)) third) third) (sym fault) turn ∙ ap (λ l. unless_refused o (written_over (rotate (neg_ℤ (t.drift *ℤ s.steps)) (t.decode l)) third) third) held-ring ∙ by o) where
-        by : (o : Option TowerFault) → unless_refused o (written_over (reading t s) third) third ≡ unless_refused (option_map Refused o) (written_over (reading t s) third) third
-        by None = refl
-        by (Some f) = refl
+      (buffer ∙ ap (λ f. unless_refused f (written_over (rotate z (t.decode ring)) third) third) (sym fault) ∙ by o turn) where
+        by : (o : Option TowerFault) → (o ≡ None → z ≡ neg_ℤ (t.drift *ℤ s.steps)) → unless_refused o (written_over (rotate z (t.decode ring)) third) third ≡ unless_refused (option_map Refused o) (written_over (reading t s) third) third
+        by None back = ap₂ (λ y l. written_over (rotate y (t.decode l)) third) (back refl) held-ring
+        by (Some f) back = refl

@@ -88,6 +88,9 @@ bottom_none t c = let e : pos t.steps *ℤ pos 0 ≡ pos 0 = omega (arith, ints)
 abbrev pub room_of : Tower → List ℕ → List ℕ → List ℕ → ℕ
 room_of t a b third = min (min (length a) (length b)) (length third / t.block)
 
+pub room_le : (t : Tower) (a b third : List ℕ) → (room_of t a b third ≤ length a) × (room_of t a b third ≤ length b)
+room_le t a b third = (omega arith, omega arith)
+
 -- what the calls of a simulation made: the first run and the last, the third buffer before the reading and after it, and what the reading answered
 pub record Ran (t : Tower) (c : List ℕ) (calls : List Call) (a b third : List ℕ) (first s : State) (refused : Option RefusedCall) (then_third last_third : List ℕ) (r : Result (Unit {0}) RunFault) : Type 0 where
   pub unrefused : encode_fault t.bottom.states t.block c (room_of t a b third) ≡ None
@@ -99,20 +102,15 @@ pub record Ran (t : Tower) (c : List ℕ) (calls : List Call) (a b third : List 
 
 module _ {t : Tower} {c : List ℕ} {calls : List Call} {a b third : List ℕ} {first s : State} {refused : Option RefusedCall} {then_third last_third : List ℕ} {r : Result (Unit {0}) RunFault}
     (standing : Standing t) (ran : Ran t c calls a b third first s refused then_third last_third r) where
-  room_a : room_of t a b third ≤ length a
-  room_a = omega arith
-
-  room_b : room_of t a b third ≤ length b
-  room_b = omega arith
-
   shows_first : Shows t c (pos 0) first
-  shows_first = subst (Shows t c (pos 0)) (sym ran.is_made) (shows-made t c a _ room_a standing ran.unrefused b room_b)
+  shows_first = subst (Shows t c (pos 0)) (sym ran.is_made) (shows-made t c a _ (room_le t a b third).0 standing ran.unrefused b (room_le t a b third).1)
 
-  room_third : length c ≤ length third
+  -- a third buffer that does not refuse the ring has room for it
+  pub room_third : length c ≤ length third
   room_third =
-      let blocks : length c / t.block ≤ length third / t.block = omega (arith, cells_room t c a _ room_a standing ran.unrefused) in
+      let blocks : length c / t.block ≤ length third / t.block = omega (arith, cells_room t c a _ (room_le t a b third).0 standing ran.unrefused) in
       let cells : length c / t.block * t.block ≤ length third / t.block * t.block = mul-le-mul_right t.block blocks in
-      omega (arith, cells, (fitting-made t c a _ room_a standing ran.unrefused).size, div-add-mod' (length third) t.block)
+      omega (arith, cells, (fitting-made t c a _ (room_le t a b third).0 standing ran.unrefused).size, div-add-mod' (length third) t.block)
 
   done : Performs t calls c (pos 0) first s (length third) refused
   done = ran.performs c (pos 0) shows_first
@@ -134,7 +132,7 @@ module _ {t : Tower} {c : List ℕ} {calls : List Call} {a b third : List ℕ} {
       ∙ ap (written_over (bottom_after t k c)) ran.reads_so_far
       ∙ third_performed t standing.laws c first (bottom_after t k c) size calls (pos 0) None first (stage_first t standing.laws c (pos 0) first shows_first) third room_third
 
-  simulates_run : (tells : Told) → tells ≡ record { cells = s.cells; steps = s.steps; holder = holder s.steps } → SimulatesRun t c calls a b third tells refused s last_third
+  pub simulates_run : (tells : Told) → tells ≡ record { cells = s.cells; steps = s.steps; holder = holder s.steps } → SimulatesRun t c calls a b third tells refused s last_third
   simulates_run tells told = record {
     told = told ∙ ap (λ z. record { cells = s.cells; steps = z; holder = holder z }) done.shows.count;
     refused = done.answer ∙ ap (λ x. limit_refused (has_inverse t) x 0 calls (pos 0)) (le-ltb (length third) (length c) room_third);
@@ -145,7 +143,7 @@ module _ {t : Tower} {c : List ℕ} {calls : List Call} {a b third : List ℕ} {
     shows = done.shows;
   }
 
-  exact_inverse : ExactInverse t c calls third s last_third
+  pub exact_inverse : ExactInverse t c calls third s last_third
   unfolding power
   exact_inverse lower can is-lift =
       let inverse : has_inverse t ≡ true = ap (λ x. is_some x.inverse) is-lift ∙ ap (λ x. is_some (cond x (lifted lower) lower).inverse) can in

@@ -172,9 +172,10 @@ impl<T: Tower> Run<T> {
     fn check_move(&self, steps: Steps, a: &[u32], b: &[u32]) -> Result<(), RunFault>
         ensures { result ≡ outcome (move_fault steps.direction (T.Tower.tower self.now.tower).top steps.count (state_of self.now a.now b.now)) }
     {
-        self.tower
-            .interval(steps.direction)
-            .ok_or(RuleFault::NoInverse)?;
+        // every tower goes forward, and a question has it work out all its numbers
+        if steps.direction == Direction::Backward {
+            self.tower.inverse().ok_or(RuleFault::NoInverse)?;
+        }
         let ring = self.present(a, b)?;
         if self.is_too_far(steps) {
             return Err(RunFault::TooFar);

@@ -64,6 +64,10 @@ module _ (q m : ℕ) (d : List ℕ) (room : ℕ) (some : 1 ≤ m) where
     by false true h = cc
     by false false h = let z : ◌≡◌ {A = ℕ} 0 1 = cc in absurd (omega arith)
 
+  -- a top ring of few enough cells is refused for a stray code or for a short buffer alone
+  pub decode_fault_else : eqb (length d) 0 ≡ false → length d ≤ max_cells / m → stray_or_short (first_stray q d) (length d * m) room ≡ decode_fault q m d room
+  decode_fault_else e l = rw e (rw (more_than max_cells (length d) m some) (rw (le-ltb (max_cells / m) (length d) l)))
+
 pub record Accepted (q : ℕ) (ring : List ℕ) (cells room : ℕ) : Type 0 where
   pub codes : Codes q ring
   pub fits : cells ≤ room

@@ -109,6 +109,16 @@ module _ (t : Tower) (s : Stands t) (k : ℕ) (c : List ℕ) (w : Fitting t k c)
   n : ℕ
   n = length c
 
+  -- of cells that are all 0, no digit is written
+  pub written_none : (cells : List ℕ) → length cells ≡ k → ((i : ℕ) → i < k → get_or cells i 0 ≡ 0) → Written t k c cells 0
+  written_none cells len each = record {
+    size = len;
+    codes = λ i h. rw (each i h) (pow_some t.bottom.states t.block s.bottom.some);
+    digits = λ i h.
+        let p = place_bounds t s k (length c) i w.some w.size h in
+        ap (λ v. digit t.bottom.states v (t.place (length c) i).1) (each (t.place (length c) i).0 p.0) ∙ digit_zero t.bottom.states (t.place (length c) i).1 ∙ sym (ap (λ b. cond b (get_or c i 0) 0) (le-ltb i 0 (omega arith)));
+  }
+
   module _ (cells : List ℕ) (j : ℕ) (h : j < length c) (before : Written t k c cells j) where
     pub added : DigitAdded t.bottom.states t.block (get_or cells (t.place (length c) j).0 0) (t.place (length c) j).1 (get_or c j 0)
     added =

@@ -36,7 +36,7 @@ module _ (g : given.Over) (c : After-decode_rotated g) (o : Option TowerFault) w
       ∙ ap₂ (λ d k. neg_ℤ (d *ℤ k)) (to_z-of_z w32 c.numbers-numbers.result.drift drift ∙ ap (λ x. x.drift) numbers) (to_z-of_z w32 c.args.self.now.steps steps) in
       read_decoded t (g.met.T.Tower.stands c.args.self.now.tower).laws (state_of c.args.self.now c.args.a.now c.args.b.now) c.args.third.now c.in_ok-ring.ensures.answer.0
       c.numbers-numbers.result.block (ap (λ x. x.block) numbers) c.in_ok-ring.ring.now c.in_ok-ring.ensures.answer.1 c.args.self.now.some c.if-third-numbers.false
-      o fault (to_z w64 (of_z w64 c.turn_back-rotation.result)) turn c.decode_rotated.new.buffer c.decode_rotated.ensures.buffer r answer
+      o fault (to_z w64 (of_z w64 c.turn_back-rotation.result)) (λ e. turn) c.decode_rotated.new.buffer c.decode_rotated.ensures.buffer r answer
 
 pub returns-in_err-decode_rotated : goal.returns-in_err-decode_rotated
 returns-in_err-decode_rotated g c =
