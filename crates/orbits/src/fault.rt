@@ -34,7 +34,7 @@ impl From<RuleFault> for EvolveFault {
 impl fmt::Display for EvolveFault {
     fn fmt<W: fmt::Write>(&self, f: &mut fmt::Formatter<W>) -> fmt::Result {
         match self {
-            EvolveFault::Memory => f.write_str("there is not enough memory"),
+            EvolveFault::Memory => write!(f, "{}", AllocError),
             EvolveFault::Rule(fault) => write!(f, "{fault}"),
         }
     }

@@ -53,10 +53,12 @@ fn run(rt: &HostRuntime) -> anyhow::Result<()> {
     let mut even = [0; MAX_CELLS];
     let mut odd = [0; MAX_CELLS];
     even[MAX_CELLS - 1] = 1;
+    // the loop makes two steps at a time: of an odd number the last step is left out, in a run too
+    let paired = steps / 2 * 2;
     let ones = if env::args(rt)?.nth(2).is_some() {
-        ones_after_run(rule, &even, steps)?
+        ones_after_run(rule, &even, paired)?
     } else {
-        ones_after(&rule, &mut even, &mut odd, steps)?
+        ones_after(&rule, &mut even, &mut odd, paired)?
     };
     println!(rt; "{ones} ones after {steps} steps")?;
     Ok(())

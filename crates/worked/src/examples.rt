@@ -1,6 +1,7 @@
 // The worked rings, computed and compared with what is expected.
 ghost use Rattle.worked.specs.Worked.{WorkedRings};
 
+use crate::compute::{Reading, simulate};
 use crate::show::{Report, Turn};
 use combinators::Lift;
 use comparisons::Totals;
@@ -9,7 +10,6 @@ use machines::{Move, Turing};
 use orbits::evolve;
 use rings::Direction;
 use rules::{RuleFault, Table};
-use runs::Run;
 use std::alloc::{AllocError, Global};
 use towers::{Ground, Numbers, Tower};
 
@@ -91,17 +91,13 @@ fn mirror_110(report: &mut Report<'_>) -> anyhow::Result<()> {
 
 // Rule 110 reduced.
 fn reduce_110(report: &mut Report<'_>) -> anyhow::Result<()> {
-    let mut a = [0; 4];
-    let mut b = [0; 4];
-    let mut reading = [0; 4];
-    let mut run = Run::make(reduced_110(), &[0, 0, 0, 1], &mut a, &b)?;
-    let code = run.present(&a, &b)?;
-    report.compare_rings("rule 110 reduced, 0 0 0 1 encoded", code, &[0, 2])?;
-    run.advance(1, &mut a, &mut b)?;
-    let top = run.present(&a, &b)?;
-    report.compare_rings("rule 110 reduced, 0 2 after a step", top, &[2, 1])?;
-    run.read(&a, &b, &mut reading)?;
-    report.compare_rings("rule 110 reduced, 2 1 read", &reading, &[0, 0, 1, 1])
+    let heap = report.rt.alloc();
+    let ring = [0, 0, 0, 1];
+    let start = simulate(heap, reduced_110(), &ring, 0)?;
+    report.compare_rings("rule 110 reduced, 0 0 0 1 encoded", &start.top, &[0, 2])?;
+    let Reading { top, told } = simulate(heap, reduced_110(), &ring, 1)?;
+    report.compare_rings("rule 110 reduced, 0 2 after a step", &top, &[2, 1])?;
+    report.compare_rings("rule 110 reduced, 2 1 read", &told, &[0, 0, 1, 1])
 }
 
 // The numbers of the four floors over rule 110.

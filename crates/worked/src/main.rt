@@ -2,6 +2,7 @@
 #![tactic(auto)]
 
 mod climb;
+mod compute;
 mod examples;
 mod show;
 
@@ -19,11 +20,11 @@ fn run(rt: &HostRuntime) -> anyhow::Result<()> {
         "A step of a tower's top does T steps of the bottom rule, on an encoded ring, and turns the ring by S cells."
     )?;
     println!(rt; "Rule 110 reduced")?;
-    climb(&mut report, reduced_110(), &rule, &[0, 0, 0, 1], 1)?;
+    climb(&mut report, reduced_110, &rule, &[0, 0, 0, 1], 1)?;
     println!(rt; "Rule 110 with four floors: pack 2, mirror, shift 3, iterate 4")?;
     climb(
         &mut report,
-        four_floors(),
+        four_floors,
         &rule,
         &[0, 0, 0, 1, 0, 0, 1, 1, 0, 1],
         3,
