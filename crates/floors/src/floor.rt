@@ -53,7 +53,7 @@ impl<T: Tower> Floor<T> {
     fn answer(&self, direction: Direction, window: &[u32]) -> Result<u32, RuleFault>
         ensures { result ≡ answer (floor_or self.now.action (T.Tower.tower self.now.below)).top.states (toward direction (floor_or self.now.action (T.Tower.tower self.now.below)).top) window.now }
     {
-        // a shift moves the interval alone, so the tower below answers, whether the action fits or not
+        // these two leave what a window gives as it is (a shift moves the interval alone), so the tower below answers, fit or not
         if let Action::Unchanged | Action::Shift(_) = self.action {
             return self.below.step(direction, window);
         }

@@ -40,7 +40,7 @@ impl Steps {
     }
 }
 
-// The caller keeps the two buffers and gives them to each call, the form that users ask for; so each function here takes both.
+// The caller keeps the two buffers and gives them to each call, the form that users ask for; so each call but `tell` takes both.
 impl<T: Tower> Run<T> {
     // A run of a tower from a bottom ring, with the encoded ring in buffer A.
     pub fn make(
